@@ -1,0 +1,10 @@
+-- The definitions, a file for a section of the document and in its order; the laws about them; and what is proved of them.
+pub mod Basics
+pub mod Refusals
+pub mod Routine
+pub mod Running
+pub mod ProbeSets
+pub mod Padding
+pub mod Judgements
+pub mod Starts
+pub mod Examples

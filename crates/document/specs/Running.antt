@@ -1,0 +1,80 @@
+-- Running (01, "Running"), over a kind of value: bits now.
+use mathlib.Core.Bool.{Bool, _&&_, cond}
+use mathlib.Core.List.{List, [], _∷_, _++_}
+use Prim.Native.Nat.{ℕ, zero, suc, _-_, _*_, _/_, _%_, _^_}
+use lib.Bits.{bitXor, bitAnd}
+use lib.Dec.{ltb, leb}
+use lib.ListN.{length, getD, drop}
+use Rattle.document.specs.Routine.{Routine, size, wire, randsBefore, pubsBefore, wellFormed}
+use Rattle.document.specs.declared.Kind.{Kind}
+use Rattle.document.specs.declared.Kind.the-variants.{Share, Rand, Pub, Xor, And, Not}
+use Rattle.document.specs.declared.Refusal.{Refusal}
+use Rattle.document.specs.declared.Refusal.the-variants as No
+use Rattle.document.specs.declared.Outcome.the-variants.{Done, Refused}
+use Rattle.document.specs.declared.Ran.{Ran}
+
+-- a kind of value: the numbers below `many`, and what `xor`, `and` and `not` do to them
+pub record Value : Type 0 where
+  pub many : ℕ
+  pub plus : ℕ → ℕ → ℕ
+  pub times : ℕ → ℕ → ℕ
+  pub turn : ℕ → ℕ
+
+-- "single-bit routines"
+abbrev pub bit : Value
+bit = record { many = 2; plus = bitXor; times = bitAnd; turn = λ v. 1 - v }
+
+-- what a wire of the kind gives: its share, random or public value, or what the operation makes of the values of a and b
+unfoldable pub gives : Value → Kind → ℕ → ℕ → ℕ → ℕ → ℕ → ℕ
+gives K Share s r p a b = s
+gives K Rand s r p a b = r
+gives K Pub s r p a b = p
+gives K Xor s r p a b = K .plus a b
+gives K And s r p a b = K .times a b
+gives K Not s r p a b = K .turn a
+
+-- "Given a word of share bits (bit k for wire k), of random bits (bit j for the j-th `rand` line, from 0) and of public bits (likewise)"
+unfoldable pub valueAt : Value → Routine → List ℕ → List ℕ → List ℕ → (ℕ → ℕ) → ℕ → ℕ
+valueAt K R shares randoms publics earlier w =
+    gives K (wire R w .kind) (getD shares w 0) (getD randoms (randsBefore R w) 0) (getD publics (pubsBefore R w) 0)
+    (earlier (wire R w .a)) (earlier (wire R w .b))
+
+-- the values of the first k wires, each from those before it
+unfoldable pub firstValues : Value → Routine → List ℕ → List ℕ → List ℕ → ℕ → List ℕ
+firstValues K R shares randoms publics zero = []
+firstValues K R shares randoms publics (suc k) =
+    let vs = firstValues K R shares randoms publics k in
+    vs ++ (valueAt K R shares randoms publics (λ w. getD vs w 0) k ∷ [])
+
+-- the values of all n wires
+unfoldable pub running : Value → Routine → List ℕ → List ℕ → List ℕ → List ℕ
+running K R shares randoms publics = firstValues K R shares randoms publics (size R)
+
+-- the first m bits of a word, "bit k" at place k
+unfoldable pub bits : ℕ → ℕ → List ℕ
+bits zero w = []
+bits (suc m) w = w % 2 ∷ bits m (w / 2)
+
+-- "running writes 0 or 1 for each of the n wires", from three words
+unfoldable pub bitValues : Routine → ℕ → ℕ → ℕ → List ℕ
+bitValues R shares randoms publics = running bit R (bits 64 shares) (bits 64 randoms) (bits 64 publics)
+
+-- 14: "a share, random or public bit set beyond the routine's own"
+unfoldable pub bitsFit : Routine → ℕ → ℕ → ℕ → Bool
+bitsFit R shares randoms publics =
+    ltb shares (2 ^ (R .S * R .D)) && ltb randoms (2 ^ randsBefore R (size R)) && ltb publics (2 ^ pubsBefore R (size R))
+
+-- "Running tests 11, 14, 15."
+unfoldable pub runRefusal : {A : Type 0} → Routine → ℕ → ℕ → ℕ → List ℕ → (Refusal → A) → A → A
+runRefusal R shares randoms publics buffer refuse answer =
+    cond (wellFormed R) (cond (bitsFit R shares randoms publics) (cond (leb (size R) (length buffer)) answer (refuse No.Buffer)) (refuse No.Bits)) (refuse No.Records)
+
+-- the answer of a run: how many bytes it wrote
+unfoldable pub ran : Routine → ℕ → ℕ → ℕ → List ℕ → Ran
+ran R shares randoms publics buffer =
+    runRefusal R shares randoms publics buffer (λ f. record { outcome = Refused f; len = 0 }) (record { outcome = Done; len = size R })
+
+-- the buffer after it: "later bytes keep their content"; of a refusal, "every list and buffer stays as it came"
+unfoldable pub ranInto : Routine → ℕ → ℕ → ℕ → List ℕ → List ℕ
+ranInto R shares randoms publics buffer =
+    runRefusal R shares randoms publics buffer (λ _. buffer) (bitValues R shares randoms publics ++ drop (size R) buffer)
