@@ -35,6 +35,13 @@ unfoldable pub elem : ℕ → List ℕ → Bool
 elem v [] = false
 elem v (x ∷ xs) = eqb v x || elem v xs
 
+-- two lists of numbers are the same
+unfoldable pub same : List ℕ → List ℕ → Bool
+same [] [] = true
+same [] (y ∷ ys) = false
+same (x ∷ xs) [] = false
+same (x ∷ xs) (y ∷ ys) = eqb x y && same xs ys
+
 -- the elements that pass the test
 unfoldable pub keep : {A : Type 0} → (A → Bool) → List A → List A
 keep f [] = []

@@ -5,7 +5,7 @@ use mathlib.Core.List.{List, [], _∷_}
 use Prim.Native.Nat.{ℕ}
 use lib.Count.{ones, onesIn}
 use Rattle.document.specs.Basics.{tally, all, some, each, elem, keep, mark}
-use Rattle.document.specs.Routine.{Routine, randsBefore, pubsBefore, outputs, ranged, fits, record-fits, ceilings, wellFormed}
+use Rattle.document.specs.Routine.{Routine, randsBefore, pubsBefore, outputs, inRange, fits, record-fits, ceilings, wellFormed}
 use Rattle.document.specs.ProbeSets.{ascending, setOf}
 use Rattle.document.specs.Padding.{probed, operandsOf, operands, randsFrom, firstLeaves, liveDown, live, padsOf, pads, consumes, onlyConsumer, serves, padsBy, firstPad, lowestPad, nextStep, goOn, stepsFrom, steps, lastLeaves, liveAtEnd, word, neededShares, bitsOf, neededOf}
 use Rattle.document.specs.Judgements.{plain, strong, inner, isOpen, setsOf, setsInOrder, setsJudged, passed, opened, firstOpen, judgement, orderFits, probesFit, judged, setRefusal, needing}
@@ -103,10 +103,10 @@ claims =
     ∷ []
 
 pub cases : Hold claims
-unfolding tally all some each elem mark randsBefore pubsBefore outputs ranged fits record-fits ceilings wellFormed ascending setOf probed operandsOf operands randsFrom firstLeaves liveDown live padsOf pads consumes onlyConsumer serves padsBy firstPad lowestPad nextStep goOn stepsFrom steps lastLeaves liveAtEnd word neededShares bitsOf neededOf ones onesIn isOpen setsOf setsInOrder setsJudged firstOpen judgement orderFits probesFit judged setRefusal needing
+unfolding tally all some each elem mark randsBefore pubsBefore outputs inRange fits record-fits ceilings wellFormed ascending setOf probed operandsOf operands randsFrom firstLeaves liveDown live padsOf pads consumes onlyConsumer serves padsBy firstPad lowestPad nextStep goOn stepsFrom steps lastLeaves liveAtEnd word neededShares bitsOf neededOf ones onesIn isOpen setsOf setsInOrder setsJudged firstOpen judgement orderFits probesFit judged setRefusal needing
 cases = ((refl, refl), ((refl, refl), ((refl, refl), ((refl, refl), ((refl, refl), (refl, ((refl, refl), (refl, ((refl, refl), ((refl, refl), tt))))))))))
 
 -- Example A's lines
 pub lines : (judged plain exampleA 1 ≡ passed 9) × (judged strong exampleA 1 ≡ passed 0) × (judged plain exampleA 2 ≡ passed 45) × (judged strong exampleA 2 ≡ passed 9)
-unfolding tally all some each elem keep mark randsBefore pubsBefore outputs ranged fits record-fits ceilings wellFormed ascending setOf probed operandsOf operands randsFrom firstLeaves liveDown live padsOf pads consumes onlyConsumer serves padsBy firstPad lowestPad nextStep goOn stepsFrom steps lastLeaves liveAtEnd word neededShares bitsOf neededOf ones onesIn inner isOpen setsOf setsInOrder setsJudged firstOpen judgement orderFits probesFit judged setRefusal needing
+unfolding tally all some each elem keep mark randsBefore pubsBefore outputs inRange fits record-fits ceilings wellFormed ascending setOf probed operandsOf operands randsFrom firstLeaves liveDown live padsOf pads consumes onlyConsumer serves padsBy firstPad lowestPad nextStep goOn stepsFrom steps lastLeaves liveAtEnd word neededShares bitsOf neededOf ones onesIn inner isOpen setsOf setsInOrder setsJudged firstOpen judgement orderFits probesFit judged setRefusal needing
 lines = (refl, refl, refl, refl)

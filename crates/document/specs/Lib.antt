@@ -2,6 +2,9 @@
 pub mod Basics
 pub mod Refusals
 pub mod Routine
+pub mod Lines
+pub mod Reading
+pub mod Writing
 pub mod Running
 pub mod ProbeSets
 pub mod Padding

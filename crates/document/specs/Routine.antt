@@ -56,8 +56,8 @@ unfoldable pub outputs : Routine → ℕ
 outputs R = tally (size R) (λ u. wire R u .out)
 
 -- "First line `routine S D`: S secrets, 1 to 8, of D shares each, 2 to 8."
-unfoldable pub ranged : Routine → Bool
-ranged R = leb 1 (R .S) && leb (R .S) 8 && leb 2 (R .D) && leb (R .D) 8
+unfoldable pub inRange : ℕ → ℕ → Bool
+inRange s d = leb 1 s && leb s 8 && leb 2 d && leb d 8
 
 -- the record at w is one that a line, or the place of a share, makes; "unused operands are 0"
 unfoldable pub fits : Routine → ℕ → Kind → ℕ → ℕ → Bool
@@ -79,7 +79,7 @@ ceilings R = leb (size R) 128 && leb (randsBefore R (size R)) 64 && leb (pubsBef
 
 -- S, D, n and the records are what a read could have given
 unfoldable pub wellFormed : Routine → Bool
-wellFormed R = ranged R && leb (R .S * R .D) (size R) && ceilings R && all (size R) (record-fits R)
+wellFormed R = inRange (R .S) (R .D) && leb (R .S * R .D) (size R) && ceilings R && all (size R) (record-fits R)
 
 -- the routine of S, D, n and a list of records: "later records don't matter"
 abbrev pub routineOf : ℕ → ℕ → ℕ → List Wire → Routine

@@ -1,10 +1,10 @@
 -- Starts and pattern counts (demand 3).
-use mathlib.Core.Bool.{Bool, true, false, _&&_}
+use mathlib.Core.Bool.{Bool}
 use mathlib.Core.List.{List, [], _∷_, map, flatMap}
 use Prim.Native.Nat.{ℕ, zero, suc, _+_, _*_}
 use lib.Dec.{eqb}
 use lib.ListN.{length, getD}
-use Rattle.document.specs.Basics.{all, keep, upTo}
+use Rattle.document.specs.Basics.{all, same, keep, upTo}
 use Rattle.document.specs.Routine.{Routine, size, randsBefore}
 use Rattle.document.specs.Running.{Value, running}
 
@@ -32,13 +32,6 @@ unfoldable pub starts : Value → Routine → List ℕ → List Start
 starts K R secrets =
     flatMap (λ x. map (λ ρ. record { shares = x; randoms = ρ }) (allWords K (randsBefore R (size R))))
     (keep (splits K R secrets) (allWords K (R .S * R .D)))
-
--- two lists of numbers are the same
-unfoldable pub same : List ℕ → List ℕ → Bool
-same [] [] = true
-same [] (y ∷ ys) = false
-same (x ∷ xs) [] = false
-same (x ∷ xs) (y ∷ ys) = eqb x y && same xs ys
 
 -- what is observed of the wires when the routine is run from the start
 unfoldable pub observed : Value → Routine → List ℕ → List ℕ → Start → List ℕ

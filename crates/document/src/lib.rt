@@ -19,6 +19,36 @@ pub struct Wire {
     pub out: bool,
 }
 
+// A field read as a number: decimal, one to three digits.
+pub enum Number {
+    Bad,
+    Is(usize),
+}
+
+// A field read as a word.
+pub enum Word {
+    Other,
+    Routine,
+    Rand,
+    Pub,
+    Xor,
+    And,
+    Not,
+    Out,
+}
+
+// A line by its form: its word and its numbers, or none that a routine text has.
+pub enum Line {
+    Bad,
+    Head(usize, usize),
+    Rand(usize),
+    Pub(usize),
+    Xor(usize, usize, usize),
+    And(usize, usize, usize),
+    Not(usize, usize),
+    Out(usize),
+}
+
 // The refusals, in the order of their table; specs/Refusals.antt gives each its number.
 pub enum Refusal {
     Length,
@@ -43,6 +73,40 @@ pub enum Refusal {
 pub enum Outcome {
     Done,
     Refused(Refusal),
+}
+
+// What was read so far: S, D, n, how many randoms, publics and outputs, one above the last output (0 before any), and the records.
+pub struct State {
+    pub s: usize,
+    pub d: usize,
+    pub n: usize,
+    pub rands: usize,
+    pub pubs: usize,
+    pub outs: usize,
+    pub low: usize,
+    pub wires: [Wire; 128],
+}
+
+// What became of one line, and the state after it.
+pub struct Taken {
+    pub outcome: Outcome,
+    pub state: State,
+}
+
+// A read routine, or a refusal with the line at fault.
+pub struct Read {
+    pub outcome: Outcome,
+    pub line: usize,
+    pub s: usize,
+    pub d: usize,
+    pub n: usize,
+    pub wires: [Wire; 128],
+}
+
+// What became of a writing, and how many bytes it wrote.
+pub struct Written {
+    pub outcome: Outcome,
+    pub len: usize,
 }
 
 // What became of a run, and how many bytes it wrote.

@@ -1,0 +1,168 @@
+-- The lines of a routine text by their form (01, "Routine text"): fields, numbers, words.
+use mathlib.Core.Bool.{Bool, true, false, _&&_, cond}
+use mathlib.Core.List.{List, [], _∷_, _++_, map}
+use Prim.Native.Nat.{ℕ, _+_, _*_, _-_, _/_, _%_}
+use lib.Dec.{eqb, ltb, leb}
+use Rattle.document.specs.Basics.{same}
+use Rattle.document.specs.declared.Number.{Number}
+use Rattle.document.specs.declared.Number.the-variants.{Bad, Is}
+use Rattle.document.specs.declared.Word.{Word}
+use Rattle.document.specs.declared.Word.the-variants.{Other, Routine, Rand, Pub, Xor, And, Not, Out}
+use Rattle.document.specs.declared.Line.{Line}
+use Rattle.document.specs.declared.Line.the-variants as L
+
+-- ---- parts of a list of bytes
+
+-- x in front of the first part
+unfoldable pub front : ℕ → List (List ℕ) → List (List ℕ)
+front x [] = []
+front x (p ∷ ps) = (x ∷ p) ∷ ps
+
+-- the parts between the separators: one more than there are separators
+unfoldable pub cut : ℕ → List ℕ → List (List ℕ)
+cut s [] = [] ∷ []
+cut s (x ∷ xs) = cond (eqb x s) ([] ∷ cut s xs) (front x (cut s xs))
+
+-- the parts but the last
+unfoldable pub heads : List (List ℕ) → List (List ℕ)
+heads [] = []
+heads (p ∷ []) = []
+heads (p ∷ q ∷ ps) = p ∷ heads (q ∷ ps)
+
+-- the parts with the separator between each two
+unfoldable pub join : ℕ → List (List ℕ) → List ℕ
+join s [] = []
+join s (p ∷ []) = p
+join s (p ∷ q ∷ ps) = p ++ s ∷ join s (q ∷ ps)
+
+-- ---- numbers
+
+-- 0 to 9; 1 to 9
+abbrev pub digit : ℕ → Bool
+digit c = leb 48 c && leb c 57
+
+abbrev pub lead : ℕ → Bool
+lead c = leb 49 c && leb c 57
+
+-- "Numbers are decimal, one to three digits, no leading zero except 0 itself."
+unfoldable pub number : List ℕ → Number
+number [] = Bad
+number (a ∷ []) = cond (digit a) (Is (a - 48)) Bad
+number (a ∷ b ∷ []) = cond (lead a && digit b) (Is ((a - 48) * 10 + (b - 48))) Bad
+number (a ∷ b ∷ c ∷ []) = cond (lead a && digit b && digit c) (Is ((a - 48) * 100 + (b - 48) * 10 + (c - 48))) Bad
+number (a ∷ b ∷ c ∷ d ∷ ds) = Bad
+
+-- a number below 1,000 as it is written
+unfoldable pub decimal : ℕ → List ℕ
+decimal n =
+    cond (ltb n 10) ((48 + n) ∷ [])
+    (cond (ltb n 100) ((48 + n / 10) ∷ (48 + n % 10) ∷ [])
+    ((48 + n / 100) ∷ (48 + n / 10 % 10) ∷ (48 + n % 10) ∷ []))
+
+-- ---- words
+
+-- the bytes of `routine`, `rand`, `pub`, `xor`, `and`, `not`, `out`
+abbrev pub spelled : Word → List ℕ
+spelled Other = []
+spelled Routine = 114 ∷ 111 ∷ 117 ∷ 116 ∷ 105 ∷ 110 ∷ 101 ∷ []
+spelled Rand = 114 ∷ 97 ∷ 110 ∷ 100 ∷ []
+spelled Pub = 112 ∷ 117 ∷ 98 ∷ []
+spelled Xor = 120 ∷ 111 ∷ 114 ∷ []
+spelled And = 97 ∷ 110 ∷ 100 ∷ []
+spelled Not = 110 ∷ 111 ∷ 116 ∷ []
+spelled Out = 111 ∷ 117 ∷ 116 ∷ []
+
+unfoldable pub wordOf : List ℕ → Word
+wordOf f =
+    cond (same f (spelled Rand)) Rand
+    (cond (same f (spelled Pub)) Pub
+    (cond (same f (spelled Xor)) Xor
+    (cond (same f (spelled And)) And
+    (cond (same f (spelled Not)) Not
+    (cond (same f (spelled Out)) Out
+    (cond (same f (spelled Routine)) Routine Other))))))
+
+-- ---- lines
+
+-- "`rand w`, `pub w`", "`out w`"
+abbrev pub with1 : Word → ℕ → Line
+with1 Other w = L.Bad
+with1 Routine w = L.Bad
+with1 Rand w = L.Rand w
+with1 Pub w = L.Pub w
+with1 Xor w = L.Bad
+with1 And w = L.Bad
+with1 Not w = L.Bad
+with1 Out w = L.Out w
+
+-- "`routine S D`", "`not w a`"
+abbrev pub with2 : Word → ℕ → ℕ → Line
+with2 Other w a = L.Bad
+with2 Routine w a = L.Head w a
+with2 Rand w a = L.Bad
+with2 Pub w a = L.Bad
+with2 Xor w a = L.Bad
+with2 And w a = L.Bad
+with2 Not w a = L.Not w a
+with2 Out w a = L.Bad
+
+-- "`xor w a b`, `and w a b`"
+abbrev pub with3 : Word → ℕ → ℕ → ℕ → Line
+with3 Other w a b = L.Bad
+with3 Routine w a b = L.Bad
+with3 Rand w a b = L.Bad
+with3 Pub w a b = L.Bad
+with3 Xor w a b = L.Xor w a b
+with3 And w a b = L.And w a b
+with3 Not w a b = L.Bad
+with3 Out w a b = L.Bad
+
+abbrev pub of1 : Word → Number → Line
+of1 k Bad = L.Bad
+of1 k (Is w) = with1 k w
+
+abbrev pub of2 : Word → Number → Number → Line
+of2 k Bad a = L.Bad
+of2 k (Is w) Bad = L.Bad
+of2 k (Is w) (Is a) = with2 k w a
+
+abbrev pub of3 : Word → Number → Number → Number → Line
+of3 k Bad a b = L.Bad
+of3 k (Is w) Bad b = L.Bad
+of3 k (Is w) (Is a) Bad = L.Bad
+of3 k (Is w) (Is a) (Is b) = with3 k w a b
+
+unfoldable pub ofFields : List (List ℕ) → Line
+ofFields [] = L.Bad
+ofFields (w ∷ []) = L.Bad
+ofFields (w ∷ a ∷ []) = of1 (wordOf w) (number a)
+ofFields (w ∷ a ∷ b ∷ []) = of2 (wordOf w) (number a) (number b)
+ofFields (w ∷ a ∷ b ∷ c ∷ []) = of3 (wordOf w) (number a) (number b) (number c)
+ofFields (w ∷ a ∷ b ∷ c ∷ d ∷ ds) = L.Bad
+
+-- "fields are parted by one tab": the line that these bytes, without the LF, make
+abbrev pub lineOf : List ℕ → Line
+lineOf bytes = ofFields (cut 9 bytes)
+
+-- "Lines end in LF": what stands behind the last LF is no line
+abbrev pub linesIn : List ℕ → List Line
+linesIn text = map lineOf (heads (cut 10 text))
+
+-- the fields of a line as they are written
+abbrev pub fieldsOf : Line → List (List ℕ)
+fieldsOf L.Bad = []
+fieldsOf (L.Head s d) = spelled Routine ∷ decimal s ∷ decimal d ∷ []
+fieldsOf (L.Rand w) = spelled Rand ∷ decimal w ∷ []
+fieldsOf (L.Pub w) = spelled Pub ∷ decimal w ∷ []
+fieldsOf (L.Xor w a b) = spelled Xor ∷ decimal w ∷ decimal a ∷ decimal b ∷ []
+fieldsOf (L.And w a b) = spelled And ∷ decimal w ∷ decimal a ∷ decimal b ∷ []
+fieldsOf (L.Not w a) = spelled Not ∷ decimal w ∷ decimal a ∷ []
+fieldsOf (L.Out w) = spelled Out ∷ decimal w ∷ []
+
+abbrev pub lineText : Line → List ℕ
+lineText l = join 9 (fieldsOf l)
+
+-- each line with the LF that ends it
+unfoldable pub textOfLines : List Line → List ℕ
+textOfLines [] = []
+textOfLines (l ∷ ls) = lineText l ++ 10 ∷ textOfLines ls
