@@ -11,3 +11,4 @@ pub mod Padding
 pub mod Judgements
 pub mod Starts
 pub mod Examples
+pub mod Laws
