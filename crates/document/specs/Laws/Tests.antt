@@ -35,6 +35,10 @@ and-r false b e = clash e refl
 pub and-i : (a b : Bool) → a ≡ true → b ≡ true → (a && b) ≡ true
 and-i a b p q = ap₂ _&&_ p q
 
+pub and-false : (a b : Bool) → b ≡ false → (a && b) ≡ false
+and-false true b e = e
+and-false false b e = refl
+
 pub not-t : (b : Bool) → not b ≡ true → b ≡ false
 not-t true e = clash e refl
 not-t false e = refl
@@ -124,7 +128,12 @@ unfolding all
 all-of zero f h = refl
 all-of (suc n) f h = and-i (all n f) (f n) (all-of n f (λ u l. h u (omega arith))) (h n (omega arith))
 
--- none passes where some does not
+pub all-ext : (n : ℕ) (f g : ℕ → Bool) → ((u : ℕ) → u < n → f u ≡ g u) → all n f ≡ all n g
+unfolding all
+all-ext zero f g h = refl
+all-ext (suc n) f g h = ap₂ _&&_ (all-ext n f g (λ u l. h u (omega arith))) (h n (omega arith))
+
+-- where some does not pass, none does
 pub some-none : (n : ℕ) (f : ℕ → Bool) → some n f ≡ false → (u : ℕ) → u < n → f u ≡ false
 unfolding some
 some-none zero f e u h = absurd (not-suc-le-zero h)
