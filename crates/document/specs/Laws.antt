@@ -11,3 +11,8 @@ pub mod Splitting
 pub mod Sound
 pub mod Words
 pub mod Needed
+pub mod Sets
+pub mod Judging
+pub mod Observing
+pub mod Orders
+pub mod Secrecy

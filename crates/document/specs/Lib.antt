@@ -12,3 +12,4 @@ pub mod Judgements
 pub mod Starts
 pub mod Examples
 pub mod Laws
+pub mod Theorems

@@ -1,0 +1,202 @@
+-- The pattern counts as sums over all starts, and that they do not depend on the secrets where each secret has an unneeded share.
+use mathlib.Core.Path.{_≡_, refl, sym, ap, ap₂, _∙_, subst}
+use mathlib.Core.Bool.{Bool, true, false, not, _&&_, cond}
+use mathlib.Core.Logic.{_⊎_, inl, inr, _≢_}
+use mathlib.Core.List.{List, [], _∷_, _++_, map, flatMap}
+use Prim.Native.Nat.{ℕ, zero, suc, _+_, _*_, _≤_, _<_}
+use native.Mathlib.Nat.{not-suc-le-zero}
+use native.Mathlib.Omega.{arith}
+use lib.ListN.{length, getD, length-append, List·getD-append}
+use lib.Seq.{getD-at}
+use Rattle.document.specs.Basics.{one, tally, keep, upTo, same, at}
+use Rattle.document.specs.Routine.{Routine, size, wire, isRand, randsBefore, pubsBefore}
+use Rattle.document.specs.Running.{Value, gives, valueAt, firstValues, running}
+use Rattle.document.specs.Padding.{probed as probedMarks, firstLeaves, lastLeaves, liveAtEnd, neededOf}
+use Rattle.document.specs.Starts.{allWords, xorOf, splits, Start, starts, observed, patternCount}
+use Rattle.document.specs.Laws.Tests.{clash, bool-cases, wire-cases, tally-spare, Mem}
+use Rattle.document.specs.Laws.Marks.{Set, In, Out}
+use Rattle.document.specs.Laws.Rule.{Live, Run}
+use Rattle.document.specs.Laws.Live.{net, Earlier}
+use Rattle.document.specs.Laws.Sums.{total, total-ext, words, words-ext, Small}
+use Rattle.document.specs.Laws.Values.{Lawful, inner-ext, value, value-leaf, value-inner}
+use Rattle.document.specs.Laws.Splitting.{splitsAt, splitsTo, startSum, secret-free}
+use Rattle.document.specs.Laws.Sound.{Sound, first-leaf→, first-leaf←, first-slots}
+use Rattle.document.specs.Laws.Needed.{probed←, ended-at, needed-live, needed-tally}
+use Rattle.document.specs.declared.Kind.{Kind}
+use Rattle.document.specs.declared.Kind.the-variants.{Share, Rand, Pub, Xor, And, Not}
+
+-- ---- sums over lists
+
+sumOf : {A : Type 0} → (A → ℕ) → List A → ℕ
+sumOf f [] = 0
+sumOf f (x ∷ xs) = f x + sumOf f xs
+
+sum-ext : {A : Type 0} (f g : A → ℕ) (xs : List A) → ((x : A) → f x ≡ g x) → sumOf f xs ≡ sumOf g xs
+unfolding sumOf
+sum-ext f g [] h = refl
+sum-ext f g (x ∷ xs) h = ap₂ _+_ (h x) (sum-ext f g xs h)
+
+sum-append : {A : Type 0} (f : A → ℕ) (xs ys : List A) → sumOf f (xs ++ ys) ≡ sumOf f xs + sumOf f ys
+unfolding sumOf
+sum-append f [] ys = omega arith
+sum-append f (x ∷ xs) ys = let z = sum-append f xs ys in omega arith
+
+sum-map : {A B : Type 0} (f : B → ℕ) (g : A → B) (xs : List A) → sumOf f (map g xs) ≡ sumOf (λ x. f (g x)) xs
+unfolding sumOf
+sum-map f g [] = refl
+sum-map f g (x ∷ xs) = ap (λ (k : ℕ). f (g x) + k) (sum-map f g xs)
+
+sum-flat : {A B : Type 0} (f : B → ℕ) (g : A → List B) (xs : List A) → sumOf f (flatMap g xs) ≡ sumOf (λ x. sumOf f (g x)) xs
+unfolding sumOf flatMap
+sum-flat f g [] = refl
+sum-flat f g (x ∷ xs) = sum-append f (g x) (flatMap g xs) ∙ ap (λ (k : ℕ). sumOf f (g x) + k) (sum-flat f g xs)
+
+sum-kept : {A : Type 0} (f : A → ℕ) (h : A → Bool) (xs : List A) → sumOf f (keep h xs) ≡ sumOf (λ x. cond (h x) (f x) 0) xs
+unfolding sumOf keep
+sum-kept f h [] = refl
+sum-kept f h (x ∷ xs) = go (h x) (sum-kept f h xs)
+  where
+    go : (b : Bool) → sumOf f (keep h xs) ≡ sumOf (λ x. cond (h x) (f x) 0) xs
+        → sumOf f (cond b (x ∷ keep h xs) (keep h xs)) ≡ cond b (f x) 0 + sumOf (λ x. cond (h x) (f x) 0) xs
+    go true e = omega arith
+    go false e = omega arith
+
+kept-sum : {A : Type 0} (h : A → Bool) (xs : List A) → length (keep h xs) ≡ sumOf (λ x. one (h x)) xs
+unfolding sumOf keep
+kept-sum h [] = refl
+kept-sum h (x ∷ xs) = go (h x) (kept-sum h xs)
+  where
+    go : (b : Bool) → length (keep h xs) ≡ sumOf (λ x. one (h x)) xs → length (cond b (x ∷ keep h xs) (keep h xs)) ≡ one b + sumOf (λ x. one (h x)) xs
+    go true e = omega arith
+    go false e = omega arith
+
+total-first : (n : ℕ) (f : ℕ → ℕ) → total (suc n) f ≡ f 0 + total n (λ v. f (suc v))
+unfolding total
+total-first zero f = refl
+total-first (suc n) f = let z = total-first n f in omega arith
+
+sum-upTo : (n lo : ℕ) (f : ℕ → ℕ) → sumOf f (upTo n lo) ≡ total n (λ v. f (lo + v))
+unfolding sumOf upTo total
+sum-upTo zero lo f = refl
+sum-upTo (suc n) lo f =
+    ap (λ (k : ℕ). f lo + k) (sum-upTo n (suc lo) f ∙ total-ext n (λ v. f (suc lo + v)) (λ v. f (lo + suc v)) (λ v _. ap f (omega arith)))
+    ∙ ap (λ (k : ℕ). f k + total n (λ v. f (lo + suc v))) (omega arith)
+    ∙ sym (total-first n (λ v. f (lo + v)))
+
+-- ---- every word of values, once
+
+sum-words : (K : Value) (m : ℕ) (f : List ℕ → ℕ) → sumOf f (allWords K m) ≡ words (K .many) m f
+unfolding allWords words sumOf
+sum-words K zero f = omega arith
+sum-words K (suc m) f =
+    sum-flat f (λ v. map (λ xs. v ∷ xs) (allWords K m)) (upTo (K .many) 0)
+    ∙ sum-ext _ (λ v. words (K .many) m (λ xs. f (v ∷ xs))) (upTo (K .many) 0) (λ v. sum-map f (λ xs. v ∷ xs) (allWords K m) ∙ sum-words K m (λ xs. f (v ∷ xs)))
+    ∙ sum-upTo (K .many) 0 (λ v. words (K .many) m (λ xs. f (v ∷ xs)))
+    ∙ total-ext (K .many) _ _ (λ v _. ap (λ (u : ℕ). words (K .many) m (λ xs. f (u ∷ xs))) (omega arith))
+
+-- ---- running is the value of each wire where the randoms are the leaves
+
+module _ (K : Value) (law : Lawful K) (R : Routine) (so : Sound R) where
+  gives-leaf : (k : Kind) (s r p a b : ℕ) → isRand k ≡ true → gives K k s r p a b ≡ r
+  unfolding gives
+  gives-leaf Share s r p a b i = clash i refl
+  gives-leaf Rand s r p a b i = refl
+  gives-leaf Pub s r p a b i = clash i refl
+  gives-leaf Xor s r p a b i = clash i refl
+  gives-leaf And s r p a b i = clash i refl
+  gives-leaf Not s r p a b i = clash i refl
+
+  gives-inner : (k : Kind) (s r r′ p a b : ℕ) → isRand k ≡ false → gives K k s r p a b ≡ gives K k s r′ p a b
+  unfolding gives
+  gives-inner Share s r r′ p a b o = refl
+  gives-inner Rand s r r′ p a b o = clash refl o
+  gives-inner Pub s r r′ p a b o = refl
+  gives-inner Xor s r r′ p a b o = refl
+  gives-inner And s r r′ p a b o = refl
+  gives-inner Not s r r′ p a b o = refl
+
+  abbrev leaves : Set
+  leaves = at (firstLeaves R)
+
+  module _ (x ρ y : List ℕ) where
+    val : ℕ → ℕ
+    val = value K law R leaves (randsBefore R) x ρ y
+
+    first-length : (n : ℕ) → length (firstValues K R x ρ y n) ≡ n
+    unfolding firstValues
+    first-length zero = refl
+    first-length (suc n) =
+        let vs = firstValues K R x ρ y n in
+        let l = first-length n in
+        let a = length-append vs (valueAt K R x ρ y (λ w. getD vs w 0) n ∷ []) in
+        omega arith
+
+    newest : (n : ℕ) (e : ℕ → ℕ) → ((v : ℕ) → v < n → e v ≡ val v) → valueAt K R x ρ y e n ≡ val n
+    unfolding valueAt val
+    newest n e ih = bool-cases (leaves n)
+        (λ i. gives-leaf (wire R n .kind) (getD x n 0) (getD ρ (randsBefore R n) 0) (getD y (pubsBefore R n) 0) (e (wire R n .a)) (e (wire R n .b)) (first-leaf→ R n i)
+        ∙ sym (value-leaf K law R (so .earlier) leaves (randsBefore R) x ρ y n i))
+        (λ o. gives-inner (wire R n .kind) (getD x n 0) (getD ρ (randsBefore R n) 0) 0 (getD y (pubsBefore R n) 0) (e (wire R n .a)) (e (wire R n .b))
+        (bool-cases (isRand (wire R n .kind)) (λ i. clash (first-leaf← R (so .few) n i) o) (λ z. z))
+        ∙ inner-ext K law R x y e val n (λ v q. ih v (so .earlier n v q))
+        ∙ sym (value-inner K law R (so .earlier) leaves (randsBefore R) x ρ y n o))
+
+    first-is : (n w : ℕ) → w < n → getD (firstValues K R x ρ y n) w 0 ≡ val w
+    unfolding firstValues
+    first-is zero w h = absurd (not-suc-le-zero h)
+    first-is (suc n) w h =
+        let vs = firstValues K R x ρ y n in
+        let new = valueAt K R x ρ y (λ v. getD vs v 0) n in
+        let len : length vs ≡ n = first-length n in
+        wire-cases w n
+        (λ e. ap (λ (k : ℕ). getD (vs ++ (new ∷ [])) k 0) e ∙ getD-at vs new [] 0 n len ∙ newest n (λ v. getD vs v 0) (λ v l. first-is n v l) ∙ ap val (sym e))
+        (λ e. List·getD-append vs (new ∷ []) 0 w (omega arith) ∙ first-is n w (omega arith))
+
+    pub running-is : (w : ℕ) → w < size R → getD (running K R x ρ y) w 0 ≡ value K law R (at (firstLeaves R)) (randsBefore R) x ρ y w
+    unfolding running val
+    running-is w h = first-is (size R) w h
+
+  -- ---- the pattern counts
+
+  -- the observed wires show the pattern
+  shows : List ℕ → List ℕ → (ℕ → ℕ) → ℕ
+  shows ps pattern e = one (same (map e ps) pattern)
+
+  map-ext : (ps : List ℕ) (e e′ : ℕ → ℕ) → ((w : ℕ) → Mem w ps → e w ≡ e′ w) → map e ps ≡ map e′ ps
+  map-ext [] e e′ h = refl
+  map-ext (p ∷ ps) e e′ h = ap₂ {C = List ℕ} (λ z zs. z ∷ zs) (h p (inl refl)) (map-ext ps e e′ (λ w m. h w (inr m)))
+
+  module _ (y : List ℕ) (os : List ℕ) (low : (v : ℕ) → Mem v os → v < size R) (pattern : List ℕ) where
+    observed-is : (x ρ : List ℕ) → observed K R y os (record { shares = x; randoms = ρ }) ≡ map (value K law R (at (firstLeaves R)) (randsBefore R) x ρ y) os
+    unfolding observed
+    observed-is x ρ = map-ext os _ _ (λ w m. running-is x ρ y w (low w m))
+
+    count-is : (secrets : List ℕ) → patternCount K R y os pattern secrets
+        ≡ startSum K law R (randsBefore R (size R)) (at (firstLeaves R)) (randsBefore R) y (shows os pattern) (λ i. getD secrets i 0)
+    unfolding patternCount starts startSum splits splitsTo splitsAt shows
+    count-is secrets =
+        let m = randsBefore R (size R) in
+        let start : List ℕ → List ℕ → Start = λ x ρ. record { shares = x; randoms = ρ } in
+        let sees : Start → ℕ = λ s. one (same (observed K R y os s) pattern) in
+        kept-sum (λ s. same (observed K R y os s) pattern) (starts K R secrets)
+        ∙ sum-flat sees (λ x. map (start x) (allWords K m)) (keep (splits K R secrets) (allWords K (R .S * R .D)))
+        ∙ sum-kept (λ x. sumOf sees (map (start x) (allWords K m))) (splits K R secrets) (allWords K (R .S * R .D))
+        ∙ sum-words K (R .S * R .D) _
+        ∙ words-ext (K .many) (law .pos) (R .S * R .D) _ _ (λ x _ _. ap (λ (c : ℕ). cond (splits K R secrets x) c 0)
+        (sum-map sees (start x) (allWords K m) ∙ sum-words K m _
+        ∙ words-ext (K .many) (law .pos) m _ _ (λ ρ _ _. ap (λ (vs : List ℕ). one (same vs pattern)) (observed-is x ρ))))
+
+    pub spare-counts : ((i : ℕ) → i < R .S → neededOf R os i < R .D) → Small (K .many) y → (secrets secrets′ : List ℕ) → Small (K .many) secrets → Small (K .many) secrets′
+        → patternCount K R y os pattern secrets ≡ patternCount K R y os pattern secrets′
+    unfolding shows
+    spare-counts few sy secrets secrets′ h h′ =
+        count-is secrets
+        ∙ secret-free K law R (so .earlier) (at (probedMarks os)) (at (firstLeaves R)) (randsBefore R) (randsBefore R (size R)) (first-slots R (at (probedMarks os)))
+        (at (lastLeaves R os)) (ended-at R so os .run) y sy (shows os pattern)
+        (λ e e′ k. ap (λ (vs : List ℕ). one (same vs pattern)) (map-ext os e e′ (λ w m. let f = so .few in let b = low w m in k w (probed← os w (omega arith) m))))
+        (λ i i<S. let f = few i i<S in
+        let is = needed-tally R so os i i<S in
+        let s = tally-spare (R .D) (λ j. at (liveAtEnd R os) (i * R .D + j)) (omega arith) in
+        (s .0, s .1, λ l. clash (needed-live R so os (i * R .D + s .0) .1 l) (s .2)))
+        (λ i. getD secrets i 0) (λ i. getD secrets′ i 0) h h′
+        ∙ sym (count-is secrets′)
