@@ -31,6 +31,9 @@ xor a b = record { kind = Xor; a = a; b = b; out = false }
 abbrev and : ℕ → ℕ → Wire
 and a b = record { kind = And; a = a; b = b; out = false }
 
+abbrev not : ℕ → Wire
+not a = record { kind = Not; a = a; b = 0; out = false }
+
 -- the wire with the output mark
 abbrev out : Wire → Wire
 out x = record { kind = x .kind; a = x .a; b = x .b; out = true }
@@ -106,7 +109,28 @@ pub cases : Hold claims
 unfolding tally all some each elem mark randsBefore pubsBefore outputs inRange fits record-fits ceilings wellFormed ascending setOf probed operandsOf operands randsFrom firstLeaves liveDown live padsOf pads consumes onlyConsumer serves padsBy firstPad lowestPad nextStep goOn stepsFrom steps lastLeaves liveAtEnd word neededShares bitsOf neededOf ones onesIn isOpen setsOf setsInOrder setsJudged firstOpen judgement orderFits probesFit judged setRefusal needing
 cases = ((refl, refl), ((refl, refl), ((refl, refl), ((refl, refl), ((refl, refl), (refl, ((refl, refl), (refl, ((refl, refl), ((refl, refl), tt))))))))))
 
--- Example A's lines
+-- ---- the shortcuts (01, "Shortcuts that would pass a leaking routine or spoil an answer"), and the order of steps
+
+abbrev pub shortcuts : List Claim
+shortcuts =
+    -- an `and` with a random is no pad
+    needs (record { S = 1; D = 2; wires = share 0 0 ∷ share 0 1 ∷ rand ∷ and 0 2 ∷ [] }) 1 (3 ∷ []) 1 false []
+    -- a `not` of a random is no step
+    ∷ needs (record { S = 1; D = 2; wires = share 0 0 ∷ share 0 1 ∷ rand ∷ not 2 ∷ xor 0 3 ∷ [] }) 1 (4 ∷ []) 1 false []
+    -- a probed padded wire is no pad
+    ∷ needs (record { S = 1; D = 3; wires = share 0 0 ∷ share 0 1 ∷ share 0 2 ∷ rand ∷ xor 0 3 ∷ xor 1 4 ∷ [] }) 2 (4 ∷ 5 ∷ []) 2 false (step 4 3 ∷ [])
+    -- a step may free a lower wire
+    ∷ needs (record { S = 1; D = 3; wires = share 0 0 ∷ share 0 1 ∷ share 0 2 ∷ rand ∷ xor 0 3 ∷ rand ∷ xor 3 5 ∷ [] }) 2 (4 ∷ 6 ∷ []) 0 false (step 6 5 ∷ step 4 3 ∷ [])
+    -- "r is the lower operand if both serve", in whatever order they are written
+    ∷ needs (record { S = 1; D = 2; wires = share 0 0 ∷ share 0 1 ∷ rand ∷ rand ∷ xor 3 2 ∷ xor 0 4 ∷ [] }) 1 (5 ∷ []) 0 false (step 4 2 ∷ step 5 4 ∷ [])
+    ∷ []
+
+pub no-shortcut : Hold shortcuts
+unfolding tally all some each elem mark randsBefore pubsBefore outputs inRange fits record-fits ceilings wellFormed ascending setOf probed operandsOf operands randsFrom firstLeaves liveDown live padsOf pads consumes onlyConsumer serves padsBy firstPad lowestPad nextStep goOn stepsFrom steps lastLeaves liveAtEnd word neededShares bitsOf neededOf ones onesIn isOpen setsOf setsInOrder setsJudged firstOpen judgement orderFits probesFit judged setRefusal needing
+no-shortcut = ((refl, refl), ((refl, refl), ((refl, refl), ((refl, refl), ((refl, refl), tt)))))
+
+-- ---- Example A's lines
+
 pub lines : (judged plain exampleA 1 ≡ passed 9) × (judged strong exampleA 1 ≡ passed 0) × (judged plain exampleA 2 ≡ passed 45) × (judged strong exampleA 2 ≡ passed 9)
 unfolding tally all some each elem keep mark randsBefore pubsBefore outputs inRange fits record-fits ceilings wellFormed ascending setOf probed operandsOf operands randsFrom firstLeaves liveDown live padsOf pads consumes onlyConsumer serves padsBy firstPad lowestPad nextStep goOn stepsFrom steps lastLeaves liveAtEnd word neededShares bitsOf neededOf ones onesIn inner isOpen setsOf setsInOrder setsJudged firstOpen judgement orderFits probesFit judged setRefusal needing
 lines = (refl, refl, refl, refl)

@@ -5,7 +5,7 @@ use mathlib.Core.Option.{Option, none, some}
 use Prim.Native.Nat.{ℕ, zero, suc, _+_, _*_, _/_, _%_, _^_, min, max}
 use lib.Count.{ones}
 use lib.Dec.{eqb}
-use lib.ListN.{getD, set, replicate}
+use lib.ListN.{set, replicate}
 use Rattle.document.specs.Basics.{one, all, elem, Marks, at, mark}
 use Rattle.document.specs.Routine.{Routine, size, wire, isRand}
 use Rattle.document.specs.declared.Kind.{Kind}

@@ -14,7 +14,7 @@ use Rattle.document.specs.ProbeSets.{setOf}
 use Rattle.document.specs.Padding.{probed, firstLeaves, live, canPad, steps, lastLeaves, liveAtEnd, neededOf}
 use Rattle.document.specs.Judgements.{Judgement, plain, isOpen, setsInOrder, setsJudged, opened, orderFits, judgedNot, judged}
 use Rattle.document.specs.Starts.{patternCount}
-use Rattle.document.specs.Examples.{Hold, claims, cases}
+use Rattle.document.specs.Examples.{Hold, claims, cases, shortcuts, no-shortcut}
 use Rattle.document.specs.Laws.Tests.{and-i, true-leb, true-ltb, cond-true, cond-false, Mem, elem→, elem←}
 use Rattle.document.specs.Laws.Sums.{Small}
 use Rattle.document.specs.Laws.Values.{bit-lawful}
@@ -34,6 +34,10 @@ use Rattle.document.specs.declared.Judged.{Judged}
 -- (a) to (j)
 pub examples : Hold claims
 examples = cases
+
+-- the shortcuts are not taken
+pub no-shortcuts : Hold shortcuts
+no-shortcuts = no-shortcut
 
 -- ---- demand 2: the padding rule
 
