@@ -1,0 +1,5 @@
+-- Reading and writing undo each other: laws of tests, forms, cuts and line texts; what a read line does; the theorems.
+pub mod Tests
+pub mod Forms
+pub mod Cuts
+pub mod LineTexts

@@ -1,0 +1,229 @@
+-- A written line is read back as itself, and a written text as its lines.
+use mathlib.Core.Path.{_≡_, refl, sym, ap, ap₂, _∙_}
+use mathlib.Core.Bool.{Bool, true, false, _&&_, _||_, false≢true, or-true}
+use mathlib.Core.List.{List, [], _∷_, _++_, map, append-assoc}
+use Prim.Native.Nat.{ℕ, _+_, _-_, _*_, _/_, _%_, _≤_, _<_}
+use native.Mathlib.Omega.{arith}
+use lib.Dec.{leb, eqb, ltb}
+use lib.ListN.{length, getD, length-append}
+use lib.Seq.{getD-append-add}
+use borrow.Author.Tests.{leb-true, ltb-true, ltb-false, le-leb, ne-eqb}
+use Rattle.document.specs.declared.Line.{Line}
+use Rattle.document.specs.declared.Line.the-variants as L
+use Rattle.document.specs.Basics.{each}
+use Rattle.document.specs.Lines.{cut, heads, join, decimal, spelled, ofFields, lineOf, linesIn, fieldsOf, lineText, textOfLines}
+use Rattle.document.specs.Reading.{letter}
+use Rattle.roundtrip.specs.Tests.{both, and-i}
+use Rattle.roundtrip.specs.Forms.{Small, below-some, fields-line, line-fields}
+use Rattle.roundtrip.specs.Cuts.{free, frees, free-append, cut-join, join-cut, ended, heads-ended}
+
+-- ---- bytes
+
+-- a to z, 0 to 9
+unfoldable pub plain : ℕ → Bool
+plain c = (leb 97 c && leb c 122) || (leb 48 c && leb c 57)
+
+-- each part is plain
+unfoldable pub plains : List (List ℕ) → Bool
+plains [] = true
+plains (p ∷ ps) = each plain p && plains ps
+
+digit-plain : (c : ℕ) → 48 ≤ c → c ≤ 57 → plain c ≡ true
+unfolding plain
+digit-plain c h k = rw (le-leb 48 c h, le-leb c 57 k) (or-true (leb 97 c && leb c 122))
+
+-- neither tab nor LF is plain
+plain-low : (c : ℕ) → plain c ≡ true → 48 ≤ c
+unfolding plain
+plain-low c h = go (leb 97 c && leb c 122) refl h where
+  go : (b : Bool) → (leb 97 c && leb c 122) ≡ b → (b || (leb 48 c && leb c 57)) ≡ true → 48 ≤ c
+  go true e h = let z = leb-true 97 c (both (leb 97 c) (leb c 122) e .0) in omega arith
+  go false e h = leb-true 48 c (both (leb 48 c) (leb c 57) h .0)
+
+plain-letter : (c : ℕ) → plain c ≡ true → letter c ≡ true
+unfolding plain
+plain-letter c h = rw h refl
+
+pub each-append : (f : ℕ → Bool) (xs ys : List ℕ) → each f xs ≡ true → each f ys ≡ true → each f (xs ++ ys) ≡ true
+unfolding each
+each-append f [] ys h k = k
+each-append f (x ∷ xs) ys h k = let t = both (f x) (each f xs) h in and-i (t .0) (each-append f xs ys (t .1) k)
+
+letters-plain : (xs : List ℕ) → each plain xs ≡ true → each letter xs ≡ true
+unfolding each
+letters-plain [] h = refl
+letters-plain (x ∷ xs) h = let t = both (plain x) (each plain xs) h in and-i (plain-letter x (t .0)) (letters-plain xs (t .1))
+
+free-plain : (s : ℕ) (xs : List ℕ) → s < 48 → each plain xs ≡ true → free s xs ≡ true
+unfolding each free
+free-plain s [] l h = refl
+free-plain s (x ∷ xs) l h =
+    let t = both (plain x) (each plain xs) h in
+    let z = plain-low x (t .0) in
+    rw (ne-eqb x s (λ e. let w : ⊥ = omega arith in w)) (free-plain s xs l (t .1))
+
+frees-plains : (s : ℕ) (ps : List (List ℕ)) → s < 48 → plains ps ≡ true → frees s ps ≡ true
+unfolding plains frees
+frees-plains s [] l h = refl
+frees-plains s (p ∷ ps) l h = let t = both (each plain p) (plains ps) h in and-i (free-plain s p l (t .0)) (frees-plains s ps l (t .1))
+
+-- ---- one line
+
+plain-decimal : (n : ℕ) → n < 1000 → each plain (decimal n) ≡ true
+unfolding each decimal
+plain-decimal n h = go (ltb n 10) (ltb n 100) refl refl where
+  go : (b c : Bool) → ltb n 10 ≡ b → ltb n 100 ≡ c → each plain (decimal n) ≡ true
+  go true c e f = let z = ltb-true n 10 e in simp (e, digit-plain (48 + n) (omega arith) (omega arith))
+  go false true e f =
+      let z = ltb-false n 10 e in
+      let y = ltb-true n 100 f in
+      simp (e, f, digit-plain (48 + n / 10) (omega arith) (omega arith), digit-plain (48 + n % 10) (omega arith) (omega arith))
+  go false false e f =
+      simp (e, f, digit-plain (48 + n / 100) (omega arith) (omega arith), digit-plain (48 + n / 10 % 10) (omega arith) (omega arith), digit-plain (48 + n % 10) (omega arith) (omega arith))
+
+plains-line : (l : Line) → Small l → plains (fieldsOf l) ≡ true
+unfolding plains each plain
+plains-line L.Bad h = absurd h
+plains-line (L.Head s d) h = simp (plain-decimal s (h .0), plain-decimal d (h .1))
+plains-line (L.Rand w) h = simp (plain-decimal w h)
+plains-line (L.Pub w) h = simp (plain-decimal w h)
+plains-line (L.Xor w a b) h = simp (plain-decimal w (h .0), plain-decimal a (h .1), plain-decimal b (h .2))
+plains-line (L.And w a b) h = simp (plain-decimal w (h .0), plain-decimal a (h .1), plain-decimal b (h .2))
+plains-line (L.Not w a) h = simp (plain-decimal w (h .0), plain-decimal a (h .1))
+plains-line (L.Out w) h = simp (plain-decimal w h)
+
+join-free : (p : List ℕ) (ps : List (List ℕ)) → plains (p ∷ ps) ≡ true → free 10 (join 9 (p ∷ ps)) ≡ true
+unfolding plains join free
+join-free p [] h = free-plain 10 p (omega arith) (both (each plain p) true h .0)
+join-free p (q ∷ ps) h =
+    let t = both (each plain p) (plains (q ∷ ps)) h in
+    free-append 10 p (9 ∷ join 9 (q ∷ ps)) (free-plain 10 p (omega arith) (t .0)) (join-free q ps (t .1))
+
+join-letters : (p : List ℕ) (ps : List (List ℕ)) → plains (p ∷ ps) ≡ true → each letter (join 9 (p ∷ ps)) ≡ true
+unfolding plains join each
+join-letters p [] h = letters-plain p (both (each plain p) true h .0)
+join-letters p (q ∷ ps) h =
+    let t = both (each plain p) (plains (q ∷ ps)) h in
+    each-append letter p (9 ∷ join 9 (q ∷ ps)) (letters-plain p (t .0)) (join-letters q ps (t .1))
+
+-- what is true of a written line
+pub record Fit (l : Line) : Type 0 where
+  pub back : lineOf (lineText l) ≡ l
+  pub no-lf : free 10 (lineText l) ≡ true
+  pub typed : each letter (lineText l) ≡ true
+
+fit-fields : (p : List ℕ) (ps : List (List ℕ)) (l : Line) → fieldsOf l ≡ p ∷ ps → Small l → Fit l
+fit-fields p ps l e h =
+    let g : plains (p ∷ ps) ≡ true = ap plains (sym e) ∙ plains-line l h in
+    record {
+      back = ap (λ (f : List (List ℕ)). ofFields f) (ap (λ (f : List (List ℕ)). cut 9 (join 9 f)) e ∙ cut-join 9 p ps (frees-plains 9 (p ∷ ps) (omega arith) g) ∙ sym e) ∙ line-fields l h;
+      no-lf = ap (λ (f : List (List ℕ)). free 10 (join 9 f)) e ∙ join-free p ps g;
+      typed = ap (λ (f : List (List ℕ)). each letter (join 9 f)) e ∙ join-letters p ps g;
+    }
+
+pub fit : (l : Line) → Small l → Fit l
+fit L.Bad h = absurd h
+fit (L.Head s d) h = fit-fields _ _ (L.Head s d) refl h
+fit (L.Rand w) h = fit-fields _ _ (L.Rand w) refl h
+fit (L.Pub w) h = fit-fields _ _ (L.Pub w) refl h
+fit (L.Xor w a b) h = fit-fields _ _ (L.Xor w a b) refl h
+fit (L.And w a b) h = fit-fields _ _ (L.And w a b) refl h
+fit (L.Not w a) h = fit-fields _ _ (L.Not w a) refl h
+fit (L.Out w) h = fit-fields _ _ (L.Out w) refl h
+
+-- bytes that make a line are those it is written with
+pub line-text : (b : List ℕ) → (lineOf b ≡ L.Bad → ⊥) → lineText (lineOf b) ≡ b
+line-text b h = ap (join 9) (sym (fields-line (cut 9 b) h)) ∙ join-cut 9 b
+
+-- ---- all lines
+
+-- P holds of each line
+abbrev pub Each : (Line → Type 0) → List Line → Type 0
+Each P [] = Unit {0}
+Each P (l ∷ ls) = P l × Each P ls
+
+pub each-lines : (P : Line → Type 0) (xs ys : List Line) → Each P xs → Each P ys → Each P (xs ++ ys)
+each-lines P [] ys h k = k
+each-lines P (x ∷ xs) ys h k = (h .0, each-lines P xs ys (h .1) k)
+
+-- what is true of a text of such lines
+pub record Texts (ls : List Line) : Type 0 where
+  pub back : linesIn (textOfLines ls) ≡ ls
+  pub typed : each letter (textOfLines ls) ≡ true
+
+text-ended : (ls : List Line) → textOfLines ls ≡ ended (map lineText ls)
+unfolding textOfLines ended
+text-ended [] = refl
+text-ended (l ∷ ls) = ap (λ (r : List ℕ). lineText l ++ 10 ∷ r) (text-ended ls)
+
+lines-back : (ls : List Line) → Each Small ls → map lineOf (map lineText ls) ≡ ls
+lines-back [] h = refl
+lines-back (l ∷ ls) h = ap₂ (λ (x : Line) (xs : List Line). x ∷ xs) (fit l (h .0) .back) (lines-back ls (h .1))
+
+lines-free : (ls : List Line) → Each Small ls → frees 10 (map lineText ls) ≡ true
+unfolding frees
+lines-free [] h = refl
+lines-free (l ∷ ls) h = and-i (fit l (h .0) .no-lf) (lines-free ls (h .1))
+
+lines-typed : (ls : List Line) → Each Small ls → each letter (textOfLines ls) ≡ true
+unfolding textOfLines each
+lines-typed [] h = refl
+lines-typed (l ∷ ls) h = each-append letter (lineText l) (10 ∷ textOfLines ls) (fit l (h .0) .typed) (lines-typed ls (h .1))
+
+pub texts : (ls : List Line) → Each Small ls → Texts ls
+texts ls h = record {
+  back = ap linesIn (text-ended ls) ∙ ap (map lineOf) (heads-ended (map lineText ls) (lines-free ls h)) ∙ lines-back ls h;
+  typed = lines-typed ls h;
+}
+
+-- the text of the lines that these parts make is the parts, each with its LF
+pub text-lines : (ps : List (List ℕ)) → Each Small (map lineOf ps) → textOfLines (map lineOf ps) ≡ ended ps
+unfolding textOfLines ended
+text-lines [] h = refl
+text-lines (p ∷ ps) h = ap₂ (λ (q r : List ℕ). q ++ 10 ∷ r) (line-text p (below-some 1000 (lineOf p) (h .0))) (text-lines ps (h .1))
+
+-- ---- the end and the length of a text
+
+last-append : (xs ys : List ℕ) → 0 < length ys → getD (xs ++ ys) (length (xs ++ ys) - 1) 0 ≡ getD ys (length ys - 1) 0
+last-append xs ys h =
+    let z : length (xs ++ ys) - 1 ≡ length xs + (length ys - 1) = omega (arith, length-append xs ys) in
+    ap (λ (n : ℕ). getD (xs ++ ys) n 0) z ∙ getD-append-add xs ys (length ys - 1) 0
+
+pub text-some : (l : Line) (ls : List Line) → 0 < length (textOfLines (l ∷ ls))
+unfolding textOfLines
+text-some l ls = omega (arith, length-append (lineText l) (10 ∷ textOfLines ls))
+
+pub text-last : (l : Line) (ls : List Line) → getD (textOfLines (l ∷ ls)) (length (textOfLines (l ∷ ls)) - 1) 0 ≡ 10
+unfolding textOfLines
+text-last l [] = last-append (lineText l) (10 ∷ []) (omega arith)
+text-last l (m ∷ ls) =
+    last-append (lineText l) (10 ∷ textOfLines (m ∷ ls)) (omega arith) ∙ last-append (10 ∷ []) (textOfLines (m ∷ ls)) (text-some m ls) ∙ text-last m ls
+
+pub text-append : (xs ys : List Line) → textOfLines (xs ++ ys) ≡ textOfLines xs ++ textOfLines ys
+unfolding textOfLines
+text-append [] ys = refl
+text-append (x ∷ xs) ys = ap (λ (r : List ℕ). lineText x ++ 10 ∷ r) (text-append xs ys) ∙ sym (append-assoc (lineText x) (10 ∷ textOfLines xs) (textOfLines ys))
+
+decimal-short : (n : ℕ) → length (decimal n) ≤ 3
+unfolding decimal
+decimal-short n = go (ltb n 10) (ltb n 100) refl refl where
+  go : (b c : Bool) → ltb n 10 ≡ b → ltb n 100 ≡ c → length (decimal n) ≤ 3
+  go true c e f = simp e (omega arith)
+  go false true e f = simp (e, f) (omega arith)
+  go false false e f = simp (e, f) (omega arith)
+
+-- the longest line is an `xor` or `and` of three numbers, or the first: 15 bytes and its LF
+pub line-short : (l : Line) → length (lineText l) ≤ 15
+unfolding join
+line-short L.Bad = omega arith
+line-short (L.Head s d) = simp length-append (omega (arith, decimal-short s, decimal-short d))
+line-short (L.Rand w) = omega (arith, decimal-short w)
+line-short (L.Pub w) = omega (arith, decimal-short w)
+line-short (L.Xor w a b) = simp length-append (omega (arith, decimal-short w, decimal-short a, decimal-short b))
+line-short (L.And w a b) = simp length-append (omega (arith, decimal-short w, decimal-short a, decimal-short b))
+line-short (L.Not w a) = simp length-append (omega (arith, decimal-short w, decimal-short a))
+line-short (L.Out w) = omega (arith, decimal-short w)
+
+pub out-short : (w : ℕ) → length (lineText (L.Out w)) ≤ 7
+unfolding join
+out-short w = omega (arith, decimal-short w)

@@ -1,0 +1,1 @@
+// Reading and writing a routine text undo each other; the theorems stand in specs/, and nothing here computes.
