@@ -3,3 +3,5 @@ pub mod Tests
 pub mod Forms
 pub mod Cuts
 pub mod LineTexts
+pub mod Formed
+pub mod Growing
