@@ -20,7 +20,8 @@ use Rattle.document.specs.Lines.{lineText, textOfLines}
 use Rattle.document.specs.declared.State.{State}
 use Rattle.document.specs.Reading.{earlier, make, takeLine}
 use Rattle.document.specs.Writing.{lineOfKind, wireLine, wireLines, outLines, linesOf, textOf}
-use Rattle.roundtrip.specs.Tests.{both, and-i, all-at, all-of}
+use Rattle.document.specs.Laws.Tests.{and-i, all-at, all-of}
+use Rattle.roundtrip.specs.Tests.{both}
 use Rattle.roundtrip.specs.Forms.{Below, Small, below-more}
 use Rattle.roundtrip.specs.LineTexts.{Each, each-lines, text-append, line-short, out-short}
 
@@ -57,9 +58,9 @@ formed R h =
 pub well : (R : Routine) → Formed R → wellFormed R ≡ true
 unfolding wellFormed ceilings
 well R f =
-    and-i
-    (and-i (and-i (f .ranged) (le-leb (R .S * R .D) (size R) (f .shares)))
-    (and-i (and-i (and-i (le-leb (size R) 128 (f .wide)) (le-leb (randsBefore R (size R)) 64 (f .few-rands))) (le-leb (pubsBefore R (size R)) 16 (f .few-pubs))) (le-leb (outputs R) 64 (f .few-outs))))
+    and-i _ _
+    (and-i _ _ (and-i _ _ (f .ranged) (le-leb (R .S * R .D) (size R) (f .shares)))
+    (and-i _ _ (and-i _ _ (and-i _ _ (le-leb (size R) 128 (f .wide)) (le-leb (randsBefore R (size R)) 64 (f .few-rands))) (le-leb (pubsBefore R (size R)) 16 (f .few-pubs))) (le-leb (outputs R) 64 (f .few-outs))))
     (all-of (size R) (record-fits R) (f .each-fits))
 
 -- "S secrets, 1 to 8, of D shares each, 2 to 8"
@@ -93,11 +94,11 @@ Made w K.Not a b = (a < w) × (b ≡ 0)
 pub made-fits : (R : Routine) (w : ℕ) (k : Kind) (a b : ℕ) → R .S * R .D ≤ w → Made w k a b → fits R w k a b ≡ true
 unfolding fits
 made-fits R w K.Share a b h m = absurd m
-made-fits R w K.Rand a b h m = and-i (and-i (le-leb (R .S * R .D) w h) (eq-eqb a 0 (m .0))) (eq-eqb b 0 (m .1))
-made-fits R w K.Pub a b h m = and-i (and-i (le-leb (R .S * R .D) w h) (eq-eqb a 0 (m .0))) (eq-eqb b 0 (m .1))
-made-fits R w K.Xor a b h m = and-i (and-i (le-leb (R .S * R .D) w h) (lt-ltb a w (m .0))) (lt-ltb b w (m .1))
-made-fits R w K.And a b h m = and-i (and-i (le-leb (R .S * R .D) w h) (lt-ltb a w (m .0))) (lt-ltb b w (m .1))
-made-fits R w K.Not a b h m = and-i (and-i (le-leb (R .S * R .D) w h) (lt-ltb a w (m .0))) (eq-eqb b 0 (m .1))
+made-fits R w K.Rand a b h m = and-i _ _ (and-i _ _ (le-leb (R .S * R .D) w h) (eq-eqb a 0 (m .0))) (eq-eqb b 0 (m .1))
+made-fits R w K.Pub a b h m = and-i _ _ (and-i _ _ (le-leb (R .S * R .D) w h) (eq-eqb a 0 (m .0))) (eq-eqb b 0 (m .1))
+made-fits R w K.Xor a b h m = and-i _ _ (and-i _ _ (le-leb (R .S * R .D) w h) (lt-ltb a w (m .0))) (lt-ltb b w (m .1))
+made-fits R w K.And a b h m = and-i _ _ (and-i _ _ (le-leb (R .S * R .D) w h) (lt-ltb a w (m .0))) (lt-ltb b w (m .1))
+made-fits R w K.Not a b h m = and-i _ _ (and-i _ _ (le-leb (R .S * R .D) w h) (lt-ltb a w (m .0))) (eq-eqb b 0 (m .1))
 
 apart : (x y z : Bool) → (x && y && z) ≡ true → (x ≡ true) × (y ≡ true) × (z ≡ true)
 apart x y z h = let t = both (x && y) z h in let u = both x y (t .0) in (u .0, u .1, t .1)
@@ -139,9 +140,9 @@ unfolding earlier each operandsOf
 made-earlier w K.Share a b m = absurd m
 made-earlier w K.Rand a b m = refl
 made-earlier w K.Pub a b m = refl
-made-earlier w K.Xor a b m = and-i (lt-ltb a w (m .0)) (and-i (lt-ltb b w (m .1)) refl)
-made-earlier w K.And a b m = and-i (lt-ltb a w (m .0)) (and-i (lt-ltb b w (m .1)) refl)
-made-earlier w K.Not a b m = and-i (lt-ltb a w (m .0)) refl
+made-earlier w K.Xor a b m = and-i _ _ (lt-ltb a w (m .0)) (and-i _ _ (lt-ltb b w (m .1)) refl)
+made-earlier w K.And a b m = and-i _ _ (lt-ltb a w (m .0)) (and-i _ _ (lt-ltb b w (m .1)) refl)
+made-earlier w K.Not a b m = and-i _ _ (lt-ltb a w (m .0)) refl
 
 -- the line that makes a wire is taken as its making
 pub made-line : (st : State) (w : ℕ) (k : Kind) (a b : ℕ) → Made w k a b → takeLine st (lineOfKind w k a b) ≡ make st w k a b

@@ -16,7 +16,8 @@ use Rattle.document.specs.Basics.{one, tally}
 use Rattle.document.specs.Routine.{Routine, size, wire, blank, isRand, isPub, randsBefore, pubsBefore, outputs, fits, record-fits}
 use Rattle.document.specs.Reading.{withMark}
 use Rattle.document.specs.Writing.{lineOfKind, wireLine, wireLines, outLines, linesOf}
-use Rattle.roundtrip.specs.Tests.{by-place, tally-same, tally-more}
+use Rattle.document.specs.Laws.Tests.{wire-cases, tally-ext}
+use Rattle.roundtrip.specs.Tests.{tally-one}
 use Rattle.roundtrip.specs.Formed.{Formed, Made, made-fits, wire-fits}
 
 -- ---- the lines of two routines that agree
@@ -96,7 +97,7 @@ module _ (R : Routine) (x : Wire) where
   unfolding tally
   count-more f =
       let e = ap (λ (n : ℕ). tally n (λ u. f (wire (more R x) u))) size-more in
-      let s = tally-same (size R) (λ u. f (wire (more R x) u)) (λ u. f (wire R u)) (λ u h. ap f (more-old u h)) in
+      let s = tally-ext (size R) (λ u. f (wire (more R x) u)) (λ u. f (wire R u)) (λ u h. ap f (more-old u h)) in
       let n = ap (λ (y : Wire). one (f y)) more-new in
       let z : one (f (wire (more R x) (size R))) + tally (size R) (λ u. f (wire (more R x) u)) ≡ tally (size R) (λ u. f (wire R u)) + one (f x) = omega arith in
       e ∙ z
@@ -115,7 +116,7 @@ module _ (R : Routine) (x : Wire) where
 
   module _ (f : Formed R) (made : Made (size R) (x .kind) (x .a) (x .b)) (unmarked : x .out ≡ false) where
     fits-more : (w : ℕ) → w < size (more R x) → record-fits (more R x) w ≡ true
-    fits-more w l = by-place w (size R)
+    fits-more w l = wire-cases w (size R)
         (λ e. fits-at R (R .wires ++ x ∷ []) w x (ap (wire (more R x)) e ∙ more-new)
         (made-fits R w (x .kind) (x .a) (x .b) (let z = f .shares in omega arith) (subst (λ (v : ℕ). Made v (x .kind) (x .a) (x .b)) (sym e) made)))
         (λ n. let v : w < size R = omega (arith, size-more) in fits-at R (R .wires ++ x ∷ []) w (wire R w) (more-old w v) (wire-fits R f w v))
@@ -141,7 +142,7 @@ module _ (R : Routine) (x : Wire) where
         let z : size (more R x) - n ≡ suc m = omega (arith, size-more) in
         let q : n + m ≡ size R = omega arith in
         let new = outs-none (more R x) (size (more R x)) 0
-        (λ j g h. by-place j (size R) (λ e. ap (λ (i : ℕ). wire (more R x) i .out) e ∙ ap (λ (v : Wire). v .out) more-new ∙ unmarked)
+        (λ j g h. wire-cases j (size R) (λ e. ap (λ (i : ℕ). wire (more R x) i .out) e ∙ ap (λ (v : Wire). v .out) more-new ∙ unmarked)
         (λ d. let i : j < size R = omega (arith, size-more) in ap (λ (v : Wire). v .out) (more-old j i) ∙ none j i)) in
         let old = outs-none R (size R) 0 (λ j g h. none j (omega arith)) in
         let same = wires-same (more R x) R m n (λ j g h. ap (λ (v : Wire). lineOfKind j (v .kind) (v .a) (v .b)) (more-old j (omega arith))) in
@@ -169,13 +170,13 @@ module _ (R : Routine) (w : ℕ) where
 
     -- what the mark does not change
     pub still : {A : Type 0} (f : Wire → A) → ((y : Wire) → f (withMark y) ≡ f y) → (j : ℕ) → f (wire (marking R w) j) ≡ f (wire R j)
-    still f g j = by-place j w
+    still f g j = wire-cases j w
         (λ e. ap (λ (i : ℕ). f (wire (marking R w) i)) e ∙ ap f marking-here ∙ g (wire R w) ∙ ap (λ (i : ℕ). f (wire R i)) (sym e))
         (λ n. ap f (marking-other j n))
 
     count-marking : (f : Wire → Bool) → ((y : Wire) → f (withMark y) ≡ f y) → tally (size (marking R w)) (λ u. f (wire (marking R w) u)) ≡ tally (size R) (λ u. f (wire R u))
     count-marking f g =
-        ap (λ (n : ℕ). tally n (λ u. f (wire (marking R w) u))) size-marking ∙ tally-same (size R) (λ u. f (wire (marking R w) u)) (λ u. f (wire R u)) (λ u h. still f g u)
+        ap (λ (n : ℕ). tally n (λ u. f (wire (marking R w) u))) size-marking ∙ tally-ext (size R) (λ u. f (wire (marking R w) u)) (λ u. f (wire R u)) (λ u h. still f g u)
 
     pub rands-marking : randsBefore (marking R w) (size (marking R w)) ≡ randsBefore R (size R)
     unfolding randsBefore
@@ -189,7 +190,7 @@ module _ (R : Routine) (w : ℕ) where
     unfolding outputs
     outputs-marking h =
         ap (λ (n : ℕ). tally n (λ u. wire (marking R w) u .out)) size-marking
-        ∙ tally-more (size R) w (λ u. wire R u .out) (λ u. wire (marking R w) u .out) here h (ap (λ (y : Wire). y .out) marking-here) (λ u n. sym (ap (λ (y : Wire). y .out) (marking-other u n)))
+        ∙ tally-one (size R) w (λ u. wire R u .out) (λ u. wire (marking R w) u .out) here h (ap (λ (y : Wire). y .out) marking-here) (λ u n. sym (ap (λ (y : Wire). y .out) (marking-other u n)))
 
     pub formed-marking : Formed R → outputs (marking R w) ≤ 64 → Formed (marking R w)
     formed-marking f o = record {
@@ -205,7 +206,7 @@ module _ (R : Routine) (w : ℕ) where
     }
 
     -- its `out` line is the last one, as long as no wire from it on is marked
-    pub lines-marking : ((j : ℕ) → w ≤ j → wire R j .out ≡ false) → linesOf (marking R w) ≡ linesOf R ++ L.Out w ∷ []
+    pub lines-marking : ((j : ℕ) → w ≤ j → j < size R → wire R j .out ≡ false) → linesOf (marking R w) ≡ linesOf R ++ L.Out w ∷ []
     unfolding linesOf outLines
     lines-marking none =
         let R′ = marking R w in
@@ -215,10 +216,10 @@ module _ (R : Routine) (w : ℕ) where
         let y : 0 + w ≡ w = omega arith in
         let wires-are = ap (λ (i : ℕ). wireLines R′ (i - n) n) size-marking ∙ wires-same R′ R (size R - n) n (λ j g h. still (λ v. lineOfKind j (v .kind) (v .a) (v .b)) (λ v. refl) j) in
         let below = outs-same R′ R w 0 (λ j g h. ap (λ (v : Wire). v .out) (marking-other j (λ e. let v : ⊥ = omega arith in v))) in
-        let above = outs-none R′ m (suc w) (λ j g h. ap (λ (v : Wire). v .out) (marking-other j (λ e. let v : ⊥ = omega arith in v)) ∙ none j (omega arith)) in
+        let above = outs-none R′ m (suc w) (λ j g h. ap (λ (v : Wire). v .out) (marking-other j (λ e. let v : ⊥ = omega arith in v)) ∙ none j (omega arith) (omega arith)) in
         let here-is : wire R′ w .out ≡ true = ap (λ (v : Wire). v .out) marking-here in
         let tail : outLines R′ (suc m) w ≡ L.Out w ∷ [] = rw here-is (ap (λ (ls : List Line). L.Out w ∷ ls) above) in
-        let old : outLines R (suc m) w ≡ [] = outs-none R (suc m) w (λ j g h. none j g) in
+        let old : outLines R (suc m) w ≡ [] = outs-none R (suc m) w (λ j g h. none j g (omega arith)) in
         let new-outs = ap (λ (i : ℕ). outLines R′ i 0) (size-marking ∙ z) ∙ outs-split R′ w (suc m) 0 ∙ ap₂ (λ (v u : List Line). v ++ u) below (ap (outLines R′ (suc m)) y ∙ tail) in
         let old-outs = ap (λ (i : ℕ). outLines R i 0) z ∙ outs-split R w (suc m) 0 ∙ ap (λ (u : List Line). outLines R w 0 ++ u) (ap (outLines R (suc m)) y ∙ old) ∙ append-nil (outLines R w 0) in
         ap₂ (λ (v o : List Line). L.Head (R .S) (R .D) ∷ (v ++ o)) wires-are (new-outs ∙ ap (λ (v : List Line). v ++ L.Out w ∷ []) (sym old-outs))

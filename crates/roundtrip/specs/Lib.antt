@@ -5,3 +5,6 @@ pub mod Cuts
 pub mod LineTexts
 pub mod Formed
 pub mod Growing
+pub mod States
+pub mod Shares
+pub mod Read

@@ -13,7 +13,8 @@ use Rattle.document.specs.declared.Line.the-variants as L
 use Rattle.document.specs.Basics.{each}
 use Rattle.document.specs.Lines.{cut, heads, join, decimal, spelled, ofFields, lineOf, linesIn, fieldsOf, lineText, textOfLines}
 use Rattle.document.specs.Reading.{letter}
-use Rattle.roundtrip.specs.Tests.{both, and-i}
+use Rattle.document.specs.Laws.Tests.{and-i}
+use Rattle.roundtrip.specs.Tests.{both}
 use Rattle.roundtrip.specs.Forms.{Small, below-some, fields-line, line-fields}
 use Rattle.roundtrip.specs.Cuts.{free, frees, free-append, cut-join, join-cut, ended, heads-ended}
 
@@ -47,12 +48,12 @@ plain-letter c h = rw h refl
 pub each-append : (f : ℕ → Bool) (xs ys : List ℕ) → each f xs ≡ true → each f ys ≡ true → each f (xs ++ ys) ≡ true
 unfolding each
 each-append f [] ys h k = k
-each-append f (x ∷ xs) ys h k = let t = both (f x) (each f xs) h in and-i (t .0) (each-append f xs ys (t .1) k)
+each-append f (x ∷ xs) ys h k = let t = both (f x) (each f xs) h in and-i _ _ (t .0) (each-append f xs ys (t .1) k)
 
 letters-plain : (xs : List ℕ) → each plain xs ≡ true → each letter xs ≡ true
 unfolding each
 letters-plain [] h = refl
-letters-plain (x ∷ xs) h = let t = both (plain x) (each plain xs) h in and-i (plain-letter x (t .0)) (letters-plain xs (t .1))
+letters-plain (x ∷ xs) h = let t = both (plain x) (each plain xs) h in and-i _ _ (plain-letter x (t .0)) (letters-plain xs (t .1))
 
 free-plain : (s : ℕ) (xs : List ℕ) → s < 48 → each plain xs ≡ true → free s xs ≡ true
 unfolding each free
@@ -65,7 +66,7 @@ free-plain s (x ∷ xs) l h =
 frees-plains : (s : ℕ) (ps : List (List ℕ)) → s < 48 → plains ps ≡ true → frees s ps ≡ true
 unfolding plains frees
 frees-plains s [] l h = refl
-frees-plains s (p ∷ ps) l h = let t = both (each plain p) (plains ps) h in and-i (free-plain s p l (t .0)) (frees-plains s ps l (t .1))
+frees-plains s (p ∷ ps) l h = let t = both (each plain p) (plains ps) h in and-i _ _ (free-plain s p l (t .0)) (frees-plains s ps l (t .1))
 
 -- ---- one line
 
@@ -163,7 +164,7 @@ lines-back (l ∷ ls) h = ap₂ (λ (x : Line) (xs : List Line). x ∷ xs) (fit 
 lines-free : (ls : List Line) → Each Small ls → frees 10 (map lineText ls) ≡ true
 unfolding frees
 lines-free [] h = refl
-lines-free (l ∷ ls) h = and-i (fit l (h .0) .no-lf) (lines-free ls (h .1))
+lines-free (l ∷ ls) h = and-i _ _ (fit l (h .0) .no-lf) (lines-free ls (h .1))
 
 lines-typed : (ls : List Line) → Each Small ls → each letter (textOfLines ls) ≡ true
 unfolding textOfLines each
