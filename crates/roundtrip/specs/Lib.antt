@@ -8,3 +8,4 @@ pub mod Growing
 pub mod States
 pub mod Shares
 pub mod Read
+pub mod Written
