@@ -1,20 +1,19 @@
 -- The test of well-formedness taken apart, and its lines: each is a line with numbers below 128, and the text is short.
-use mathlib.Core.Path.{_≡_, refl, sym, ap, subst, _∙_}
-use mathlib.Core.Bool.{Bool, true, false, _&&_, cond, false≢true}
+use mathlib.Core.Path.{_≡_, refl, ap, _∙_}
+use mathlib.Core.Bool.{Bool, true, false, _&&_, cond}
 use mathlib.Core.List.{List, [], _∷_, _++_}
 use Prim.Native.Nat.{ℕ, zero, suc, _+_, _-_, _*_, _/_, _%_, _≤_, _<_}
 use native.Mathlib.Omega.{arith}
 use native.Mathlib.Nat.{suc-mul, mul-le-mul-right}
 use lib.Dec.{leb, eqb, ltb}
-use lib.ListN.{length, getD, length-append}
+use lib.ListN.{length, length-append}
 use borrow.Author.Tests.{leb-true, eqb-true, ltb-true, lt-ltb, le-leb, eq-eqb}
 use Rattle.document.specs.declared.Kind.{Kind}
 use Rattle.document.specs.declared.Kind.the-variants as K
-use Rattle.document.specs.declared.Wire.{Wire}
 use Rattle.document.specs.declared.Line.{Line}
 use Rattle.document.specs.declared.Line.the-variants as L
-use Rattle.document.specs.Basics.{each, tally, all}
-use Rattle.document.specs.Routine.{Routine, size, wire, blank, isRand, isPub, randsBefore, pubsBefore, outputs, inRange, fits, record-fits, ceilings, wellFormed}
+use Rattle.document.specs.Basics.{each, all}
+use Rattle.document.specs.Routine.{Routine, size, wire, randsBefore, pubsBefore, outputs, inRange, fits, record-fits, ceilings, wellFormed}
 use Rattle.document.specs.Padding.{operandsOf}
 use Rattle.document.specs.Lines.{lineText, textOfLines}
 use Rattle.document.specs.declared.State.{State}

@@ -13,7 +13,7 @@ use Rattle.document.specs.declared.Word.the-variants as W
 use Rattle.document.specs.declared.Number.{Number}
 use Rattle.document.specs.declared.Number.the-variants.{Is, Bad}
 use Rattle.document.specs.Basics.{same}
-use Rattle.document.specs.Lines.{number, decimal, digit, lead, spelled, wordOf, of1, of2, of3, with1, with2, with3, ofFields, fieldsOf}
+use Rattle.document.specs.Lines.{number, decimal, digit, lead, spelled, wordOf, of1, of2, of3, ofFields, fieldsOf}
 use Rattle.roundtrip.specs.Tests.{both}
 
 -- ---- numbers

@@ -9,3 +9,5 @@ pub mod States
 pub mod Shares
 pub mod Read
 pub mod Written
+pub mod Records
+pub mod TextTheorems

@@ -1,17 +1,17 @@
 -- A written line is read back as itself, and a written text as its lines.
 use mathlib.Core.Path.{_≡_, refl, sym, ap, ap₂, _∙_}
-use mathlib.Core.Bool.{Bool, true, false, _&&_, _||_, false≢true, or-true}
+use mathlib.Core.Bool.{Bool, true, false, _&&_, _||_, or-true}
 use mathlib.Core.List.{List, [], _∷_, _++_, map, append-assoc}
-use Prim.Native.Nat.{ℕ, _+_, _-_, _*_, _/_, _%_, _≤_, _<_}
+use Prim.Native.Nat.{ℕ, _+_, _-_, _/_, _%_, _≤_, _<_}
 use native.Mathlib.Omega.{arith}
-use lib.Dec.{leb, eqb, ltb}
+use lib.Dec.{leb, ltb}
 use lib.ListN.{length, getD, length-append}
 use lib.Seq.{getD-append-add}
 use borrow.Author.Tests.{leb-true, ltb-true, ltb-false, le-leb, ne-eqb}
 use Rattle.document.specs.declared.Line.{Line}
 use Rattle.document.specs.declared.Line.the-variants as L
 use Rattle.document.specs.Basics.{each}
-use Rattle.document.specs.Lines.{cut, heads, join, decimal, spelled, ofFields, lineOf, linesIn, fieldsOf, lineText, textOfLines}
+use Rattle.document.specs.Lines.{cut, join, decimal, ofFields, lineOf, linesIn, fieldsOf, lineText, textOfLines}
 use Rattle.document.specs.Reading.{letter}
 use Rattle.document.specs.Laws.Tests.{and-i}
 use Rattle.roundtrip.specs.Tests.{both}

@@ -1,11 +1,12 @@
 -- What is read is well-formed, and its lines are those of the text.
 use mathlib.Core.Path.{_≡_, refl, sym, ap, ap₂, subst, _∙_}
 use mathlib.Core.Bool.{Bool, true, false, _&&_, cond}
-use mathlib.Core.List.{List, [], _∷_, _++_, map, append-assoc, append-nil}
-use Prim.Native.Nat.{ℕ, suc, _+_, _-_, _*_, _≤_, _<_}
+use mathlib.Core.List.{List, [], _∷_, _++_, append-assoc, append-nil}
+use Prim.Native.Nat.{ℕ, _+_, _-_, _≤_, _<_}
 use native.Mathlib.Omega.{arith}
 use lib.Dec.{leb, eqb, ltb}
 use lib.ListN.{length, getD, replicate}
+use lib.Seq.{take-append-seam}
 use borrow.Author.Tests.{eqb-true, ltb-true}
 use Rattle.document.specs.declared.Wire.{Wire}
 use Rattle.document.specs.declared.Line.{Line}
@@ -19,7 +20,7 @@ use Rattle.document.specs.declared.Read.{Read}
 use Rattle.document.specs.Laws.Tests.{wire-cases}
 use Rattle.document.specs.Basics.{each}
 use Rattle.document.specs.Routine.{Routine, size, wire, blank, outputs, inRange}
-use Rattle.document.specs.Lines.{cut, heads, lineOf, linesIn, textOfLines}
+use Rattle.document.specs.Lines.{cut, heads, linesIn, textOfLines}
 use Rattle.document.specs.Reading.{made, marked, takeLine, notRead, readAll, onward, readLines, begun, fromHeader, fromFirst, letter, reading, routineIn}
 use Rattle.document.specs.Writing.{lineOfKind, linesOf, textOf}
 use Rattle.roundtrip.specs.Tests.{both, not-done, none-tally}
@@ -27,8 +28,8 @@ use Rattle.roundtrip.specs.Forms.{Below, Small}
 use Rattle.roundtrip.specs.Cuts.{ended-text}
 use Rattle.roundtrip.specs.LineTexts.{Each, text-lines}
 use Rattle.roundtrip.specs.Formed.{Formed, Made, lines-below, each-small}
-use Rattle.roundtrip.specs.Growing.{more, marking, size-more, more-old, more-new, formed-more, lines-more, size-marking, marking-other, outputs-marking, formed-marking, lines-marking}
-use Rattle.roundtrip.specs.States.{Holds, holds-routine, fresh, holds-made, holds-marked, Does, makes, marks, does}
+use Rattle.roundtrip.specs.Growing.{withWires, more, marking, size-more, more-old, more-new, formed-more, lines-more, size-marking, marking-other, outputs-marking, formed-marking, lines-marking}
+use Rattle.roundtrip.specs.States.{Holds, fresh, holds-made, holds-marked, Does, makes, marks, does}
 use Rattle.roundtrip.specs.Shares.{onlyShares, shares-wire, shares-holds, shares-formed, shares-lines}
 
 -- ---- line by line
@@ -170,6 +171,9 @@ accepted t h =
 abbrev pub readOf : Routine → Read
 readOf R = record { outcome = Done; line = 0; s = R .S; d = R .D; n = size R; wires = R .wires ++ replicate (128 - size R) blank }
 
+pub routine-of-read : (R : Routine) → routineIn (readOf R) ≡ R
+routine-of-read R = ap (withWires R) (take-append-seam (R .wires) (replicate (128 - size R) blank))
+
 pub holds-read : (st : State) (R : Routine) → Holds st R → readAll st ≡ readOf R
 holds-read st R h =
     ap₂ (λ (s d : ℕ). record { outcome = Done; line = 0; s = s; d = d; n = st .n; wires = st .wires }) (h .s-is) (h .d-is)
@@ -180,7 +184,7 @@ module _ (t : List ℕ) (h : reading t .outcome ≡ Done) where
   reach = accepted t h .reached
 
   routine-is : routineIn (reading t) ≡ reach .routine
-  routine-is = ap (λ (r : Read). routineIn r) (reach .is) ∙ holds-routine (reach .state) (reach .routine) (reach .known .holds)
+  routine-is = ap (λ (r : Read). routineIn r) (reach .is ∙ holds-read (reach .state) (reach .routine) (reach .known .holds)) ∙ routine-of-read (reach .routine)
 
   pub read-formed : Formed (routineIn (reading t))
   read-formed = subst Formed (sym routine-is) (reach .known .is-formed)

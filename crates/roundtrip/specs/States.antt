@@ -2,11 +2,11 @@
 use mathlib.Core.Path.{_≡_, refl, sym, ap, ap₂, subst, _∙_}
 use mathlib.Core.Bool.{Bool, true, false, _&&_, cond}
 use mathlib.Core.List.{List, [], _∷_, _++_, append-assoc}
-use Prim.Native.Nat.{ℕ, zero, suc, _+_, _-_, _*_, _/_, _%_, _≤_, _<_}
+use Prim.Native.Nat.{ℕ, suc, _+_, _-_, _≤_, _<_}
 use native.Mathlib.Omega.{arith}
 use lib.Dec.{leb, eqb, ltb}
 use lib.ListN.{length, getD, set, replicate, length-append, length-set, List·getD-append}
-use lib.Seq.{set-append-seam, set-append-left, take-append-seam}
+use lib.Seq.{set-append-seam, set-append-left}
 use borrow.Author.Tests.{leb-true, eqb-true, ltb-true}
 use Rattle.document.specs.declared.Kind.{Kind}
 use Rattle.document.specs.declared.Kind.the-variants as K
@@ -19,13 +19,13 @@ use Rattle.document.specs.declared.Outcome.the-variants.{Done}
 use Rattle.document.specs.declared.State.{State}
 use Rattle.document.specs.declared.Taken.{Taken}
 use Rattle.document.specs.Basics.{one, each}
-use Rattle.document.specs.Routine.{Routine, size, wire, blank, isRand, isPub, randsBefore, pubsBefore, outputs, routineOf}
+use Rattle.document.specs.Routine.{Routine, size, wire, blank, isRand, isPub, randsBefore, pubsBefore, outputs}
 use Rattle.document.specs.Padding.{operandsOf}
-use Rattle.document.specs.Reading.{taken, notTaken, made, withMark, marked, isNext, earlier, hasRoom, make, markOut, takeLine, routineIn, readAll}
+use Rattle.document.specs.Reading.{taken, notTaken, made, withMark, marked, isNext, earlier, hasRoom, make, markOut, takeLine}
 use Rattle.document.specs.Writing.{lineOfKind}
 use Rattle.roundtrip.specs.Tests.{both, not-done}
 use Rattle.roundtrip.specs.Formed.{Made}
-use Rattle.roundtrip.specs.Growing.{withWires, more, marking, size-more, rands-more, pubs-more, outputs-more, size-marking, rands-marking, pubs-marking, outputs-marking}
+use Rattle.roundtrip.specs.Growing.{more, marking, size-more, rands-more, pubs-more, outputs-more, size-marking, rands-marking, pubs-marking, outputs-marking}
 
 -- ---- what a state stands for
 
@@ -41,12 +41,6 @@ pub record Holds (st : State) (R : Routine) : Type 0 where
   pub pubs-are : st .pubs ≡ pubsBefore R (size R)
   pub outs-are : st .outs ≡ outputs R
   pub wires-are : st .wires ≡ padded (R .wires)
-
--- what is read from such a state is the routine
-pub holds-routine : (st : State) (R : Routine) → Holds st R → routineIn (readAll st) ≡ R
-holds-routine st R h =
-    ap₂ (λ (s d : ℕ). routineOf s d (st .n) (st .wires)) (h .s-is) (h .d-is) ∙ ap₂ (λ (n : ℕ) (vs : List Wire). routineOf (R .S) (R .D) n vs) (h .n-is) (h .wires-are)
-    ∙ ap (λ (vs : List Wire). withWires R vs) (take-append-seam (R .wires) (replicate (128 - size R) blank))
 
 -- ---- one wire more
 

@@ -1,11 +1,11 @@
 -- A well-formed routine's own lines are taken one after the other, and what they lead to is the routine.
 use mathlib.Core.Path.{_≡_, refl, sym, ap, ap₂, subst, _∙_}
-use mathlib.Core.Bool.{Bool, true, false, _&&_, cond, false≢true}
-use mathlib.Core.List.{List, [], _∷_, _++_, append-nil}
-use Prim.Native.Nat.{ℕ, zero, suc, _+_, _-_, _*_, _/_, _%_, _≤_, _<_}
+use mathlib.Core.Bool.{Bool, true, false, cond, false≢true}
+use mathlib.Core.List.{List, _∷_, _++_}
+use Prim.Native.Nat.{ℕ, zero, suc, _+_, _-_, _*_, _≤_, _<_}
 use native.Mathlib.Omega.{arith}
-use lib.Dec.{leb, eqb, ltb}
-use lib.ListN.{length, getD, replicate}
+use lib.Dec.{ltb}
+use lib.ListN.{length, getD}
 use lib.Seq.{ext-getD}
 use borrow.Author.Tests.{ltb-true, ltb-false, lt-ltb, le-leb, eq-eqb}
 use Rattle.document.specs.declared.Kind.{Kind}
@@ -13,22 +13,20 @@ use Rattle.document.specs.declared.Kind.the-variants as K
 use Rattle.document.specs.declared.Wire.{Wire}
 use Rattle.document.specs.declared.Line.{Line}
 use Rattle.document.specs.declared.Line.the-variants as L
-use Rattle.document.specs.declared.Outcome.the-variants.{Done}
 use Rattle.document.specs.declared.State.{State}
 use Rattle.document.specs.declared.Taken.{Taken}
 use Rattle.document.specs.declared.Read.{Read}
 use Rattle.document.specs.Laws.Tests.{and-i, wire-cases, cond-true, tally-ext, tally-mono, tally-le}
-use Rattle.document.specs.Basics.{one, tally, each}
-use Rattle.document.specs.Routine.{Routine, size, wire, blank, isRand, isPub, randsBefore, pubsBefore, outputs, inRange}
-use Rattle.document.specs.Lines.{linesIn}
-use Rattle.document.specs.Reading.{taken, made, withMark, marked, isNext, earlier, hasRoom, make, markOut, takeLine, readAll, onward, readLines, begun, fromHeader, fromFirst, letter, reading}
+use Rattle.document.specs.Basics.{one, tally}
+use Rattle.document.specs.Routine.{Routine, size, wire, blank, isRand, isPub, randsBefore, pubsBefore, outputs}
+use Rattle.document.specs.Reading.{taken, made, withMark, marked, isNext, hasRoom, make, markOut, takeLine, readAll, onward, readLines, begun, fromHeader, fromFirst, reading}
 use Rattle.document.specs.Writing.{lineOfKind, wireLine, wireLines, outLines, linesOf, textOf}
 use Rattle.roundtrip.specs.Tests.{tally-none}
 use Rattle.roundtrip.specs.LineTexts.{texts, text-some, text-last}
-use Rattle.roundtrip.specs.Formed.{Formed, Made, Place, fits-place, made-earlier, made-line, wire-fits, wire-made, lines-below, each-small, text-short}
+use Rattle.roundtrip.specs.Formed.{Formed, Made, fits-place, made-earlier, made-line, wire-fits, wire-made, lines-below, each-small, text-short}
 use Rattle.roundtrip.specs.Growing.{withWires, more, size-more, more-old, more-new, marking, size-marking, marking-other, marking-here, outputs-marking}
 use Rattle.roundtrip.specs.States.{Holds, fresh, holds-made, holds-marked}
-use Rattle.roundtrip.specs.Shares.{onlyShares, share, shares-length, shares-wire, shares-holds}
+use Rattle.roundtrip.specs.Shares.{onlyShares, shares-length, shares-wire, shares-holds}
 use Rattle.roundtrip.specs.Read.{readOf, holds-read}
 
 -- ---- lines that are taken
