@@ -10,6 +10,7 @@ pub mod ProbeSets
 pub mod Padding
 pub mod Judgements
 pub mod Starts
+pub mod Lent
 pub mod Examples
 pub mod Laws
 pub mod Theorems
