@@ -40,7 +40,7 @@ module _ (N : Net) (P P′ L L′ : Set) (sub : Sub P P′) (inv : (v : ℕ) →
   still-out : {v : ℕ} → Live N P L v → Out L v → Out L′ v
   still-out {v} l o = out-of (λ i. clash (inv v l i) o)
 
-  still-live : {v : ℕ} → Live N P L v → Live N P′ L′ v
+  pub still-live : {v : ℕ} → Live N P L v → Live N P′ L′ v
   still-live (probed p) = probed (sub _ p)
   still-live (operand l o q) = operand (still-live l) (still-out l o) q
 
@@ -54,14 +54,14 @@ module _ (N : Net) (P P′ L L′ : Set) (sub : Sub P P′) (inv : (v : ℕ) →
     only = λ u lu ou q. s .only u (still-live lu) (still-out lu ou) q;
   }
 
-  keep : {w r : ℕ} → Final N P L → Step N P′ L′ w r → (v : ℕ) → Live N P L v → In (add L′ w) v → In L v
+  pub keep : {w r : ℕ} → Final N P L → Step N P′ L′ w r → (v : ℕ) → Live N P L v → In (add L′ w) v → In L v
   keep {w} {r} fin s v l h =
       add-cases L′ w v h
       (λ e. bool-cases (L v) (λ i. i) (λ o. absurd (fin w r (same-step s (subst (Live N P L) e l) (subst (Out L) e o)))))
       (inv v l)
 
 module _ (N : Net) (P P′ L₀ : Set) (sub : Sub P P′) where
-  grows : {L : Set} → Run N P L₀ L → Sub L₀ L
+  pub grows : {L : Set} → Run N P L₀ L → Sub L₀ L
   grows start w h = h
   grows (step {L = L} {w = v} r s) w h = add-in L v w (grows r w h)
 

@@ -30,8 +30,7 @@ pub record Sound (R : Routine) : Type 0 where
   pub some-shares : 2 ≤ R .D
   pub few-secrets : R .S ≤ 8
   pub few-shares : R .D ≤ 8
-  -- shares have no pads
-  pub bare : (w : ℕ) → w < R .S * R .D → hasPad (pads R w) ≡ false
+  pub kinds : (w : ℕ) → w < R .S * R .D → wire R w .kind ≡ Share
 
 two-earlier : (w a b v : ℕ) (c : Bool) → (c && ltb a w && ltb b w) ≡ true → Mem v (a ∷ b ∷ []) → v < w
 two-earlier w a b v c e (inl q) = omega (arith, ltb-true a w (and-r c (ltb a w) (and-l (c && ltb a w) (ltb b w) e)))
@@ -49,15 +48,19 @@ fits-earlier R w Not a b v e (inl q) =
     omega (arith, ltb-true a w (and-r (leb (R .S * R .D) w) (ltb a w) (and-l (leb (R .S * R .D) w && ltb a w) (eqb b 0) e)))
 fits-earlier R w Not a b v e (inr q) = absurd q
 
+-- the first of three tests
+first-of : (a b c : Bool) → (a && b && c) ≡ true → a ≡ true
+first-of a b c e = and-l a b (and-l (a && b) c e)
+
 -- a wire below S times D that fits is a share
-fits-bare : (R : Routine) (w : ℕ) (k : Kind) (a b : ℕ) → fits R w k a b ≡ true → w < R .S * R .D → hasPad (padsOf k a b) ≡ false
-unfolding fits padsOf hasPad
-fits-bare R w Share a b e h = refl
-fits-bare R w Rand a b e h = refl
-fits-bare R w Pub a b e h = refl
-fits-bare R w Xor a b e h = absurd (omega (arith, leb-true (R .S * R .D) w (and-l (leb (R .S * R .D) w) (ltb a w) (and-l (leb (R .S * R .D) w && ltb a w) (ltb b w) e))))
-fits-bare R w And a b e h = refl
-fits-bare R w Not a b e h = refl
+fits-share : (R : Routine) (w : ℕ) (k : Kind) (a b : ℕ) → fits R w k a b ≡ true → w < R .S * R .D → k ≡ Share
+unfolding fits
+fits-share R w Share a b e h = refl
+fits-share R w Rand a b e h = absurd (omega (arith, leb-true (R .S * R .D) w (first-of (leb (R .S * R .D) w) (eqb a 0) (eqb b 0) e)))
+fits-share R w Pub a b e h = absurd (omega (arith, leb-true (R .S * R .D) w (first-of (leb (R .S * R .D) w) (eqb a 0) (eqb b 0) e)))
+fits-share R w Xor a b e h = absurd (omega (arith, leb-true (R .S * R .D) w (first-of (leb (R .S * R .D) w) (ltb a w) (ltb b w) e)))
+fits-share R w And a b e h = absurd (omega (arith, leb-true (R .S * R .D) w (first-of (leb (R .S * R .D) w) (ltb a w) (ltb b w) e)))
+fits-share R w Not a b e h = absurd (omega (arith, leb-true (R .S * R .D) w (first-of (leb (R .S * R .D) w) (ltb a w) (eqb b 0) e)))
 
 -- a record past the end is blank
 past : (R : Routine) (u : ℕ) → size R ≤ u → wire R u ≡ blank
@@ -103,13 +106,17 @@ module _ (R : Routine) (good : wellFormed R ≡ true) where
     some-shares = leb-true 2 (R .D) (let z = ranged in search (and-l, and-r));
     few-secrets = leb-true (R .S) 8 (let z = ranged in search (and-l, and-r));
     few-shares = leb-true (R .D) 8 (let z = ranged in search (and-l, and-r));
-    bare = λ w h. fits-bare R w (wire R w .kind) (wire R w .a) (wire R w .b) (record-at w (let z = leb-true (R .S * R .D) (size R) room-for-shares in omega arith)) h;
+    kinds = λ w h. fits-share R w (wire R w .kind) (wire R w .a) (wire R w .b) (record-at w (let z = leb-true (R .S * R .D) (size R) room-for-shares in omega arith)) h;
   }
 
--- wires that are no shares have the pads
+-- shares have no pads, so the wires with pads are no shares
+bare : (R : Routine) → Sound R → (w : ℕ) → w < R .S * R .D → hasPad (pads R w) ≡ false
+unfolding pads padsOf hasPad
+bare R so w h = ap (λ (k : Kind). hasPad (padsOf k (wire R w .a) (wire R w .b))) (so .kinds w h)
+
 pub few-rooms : (R : Routine) → Sound R → (L : List Bool) → R .S * R .D + room R L ≤ size R
 unfolding room
-few-rooms R so L = tally-skip _ (R .S * R .D) (size R) (so .shares) (λ u h. and-false (not (at L u)) (hasPad (pads R u)) (so .bare u h))
+few-rooms R so L = tally-skip _ (R .S * R .D) (size R) (so .shares) (λ u h. and-false (not (at L u)) (hasPad (pads R u)) (bare R so u h))
 
 -- ---- the first leaves
 

@@ -1,0 +1,1 @@
+// What each wire is computed from, as words: shares, randoms, and randoms of its own.
