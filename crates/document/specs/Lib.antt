@@ -11,6 +11,7 @@ pub mod Padding
 pub mod Judgements
 pub mod Starts
 pub mod Lent
+pub mod Desk
 pub mod Examples
 pub mod Laws
 pub mod Theorems
