@@ -1,0 +1,169 @@
+-- Laws on tests, numbers, words and cuts that the proofs of this crate cite.
+use mathlib.Core.Path.{_≡_, refl, sym, ap, _∙_}
+use mathlib.Core.Bool.{Bool, true, false, _&&_, cond, false≢true, and-false}
+use mathlib.Core.List.{List, [], _∷_}
+use Prim.Native.Nat.{ℕ, zero, suc, _+_, _-_, _≤_, _<_}
+use native.Mathlib.Omega.{arith}
+use native.Mathlib.Numerals.{add-one}
+use lib.ListN.{length, getD, take, drop, drop-of-length-le, length-drop}
+use lib.Seq.{take-all}
+use lib.Dec.{leb, eqb}
+use borrow.Author.Tests.{leb-true, eq-eqb, ne-eqb}
+use Rattle.document.specs.Basics.{same}
+use Rattle.document.specs.Lines.{cut, front, number, digit, lead, ofFields, wordOf, spelled}
+use Rattle.document.specs.declared.Number.{Number}
+use Rattle.document.specs.declared.Number.the-variants.{Bad}
+use Rattle.document.specs.declared.Word.{Word}
+use Rattle.document.specs.declared.Word.the-variants.{Other, Routine, Rand, Pub, Xor, And, Not, Out}
+use Rattle.document.specs.declared.Line.{Line}
+use Rattle.document.specs.declared.Line.the-variants as L
+use Rattle.line.specs.Parts.{Parted}
+use Rattle.line.specs.Fields.{afterWord, afterSecond}
+
+-- ---- tests
+
+pub both : (x y : Bool) → (x && y) ≡ true → (x ≡ true) × (y ≡ true)
+both true true h = (refl, refl)
+both true false h = absurd (false≢true h)
+both false y h = absurd (false≢true h)
+
+pub digit-is : (c : ℕ) → digit c ≡ true → (48 ≤ c) × (c ≤ 57)
+digit-is c h = let e = both (leb 48 c) (leb c 57) h in (leb-true _ _ (e .0), leb-true _ _ (e .1))
+
+pub lead-is : (c : ℕ) → lead c ≡ true → (49 ≤ c) × (c ≤ 57)
+lead-is c h = let e = both (leb 49 c) (leb c 57) h in (leb-true _ _ (e .0), leb-true _ _ (e .1))
+
+-- ---- numbers, by the length of the field
+
+pub number-1 : (xs : List ℕ) {r : Number} {a : ℕ} → length xs ≡ 1 → r ≡ number (a ∷ []) → a ≡ getD xs 0 0 → r ≡ number xs
+number-1 [] h e p = let z : ⊥ = omega arith in absurd z
+number-1 (a ∷ []) h e p = cc
+number-1 (a ∷ b ∷ xs) h e p = let z : ⊥ = omega arith in absurd z
+
+pub number-2 : (xs : List ℕ) {r : Number} {a b : ℕ} → length xs ≡ 2 → r ≡ number (a ∷ b ∷ []) → a ≡ getD xs 0 0 → b ≡ getD xs 1 0 → r ≡ number xs
+number-2 [] h e p q = let z : ⊥ = omega arith in absurd z
+number-2 (a ∷ []) h e p q = let z : ⊥ = omega arith in absurd z
+number-2 (a ∷ b ∷ []) h e p q = cc
+number-2 (a ∷ b ∷ c ∷ xs) h e p q = let z : ⊥ = omega arith in absurd z
+
+pub number-3 : (xs : List ℕ) {r : Number} {a b c : ℕ}
+    → length xs ≡ 3 → r ≡ number (a ∷ b ∷ c ∷ []) → a ≡ getD xs 0 0 → b ≡ getD xs 1 0 → c ≡ getD xs 2 0 → r ≡ number xs
+number-3 [] h e p q s = let z : ⊥ = omega arith in absurd z
+number-3 (a ∷ []) h e p q s = let z : ⊥ = omega arith in absurd z
+number-3 (a ∷ b ∷ []) h e p q s = let z : ⊥ = omega arith in absurd z
+number-3 (a ∷ b ∷ c ∷ []) h e p q s = cc
+number-3 (a ∷ b ∷ c ∷ d ∷ xs) h e p q s = let z : ⊥ = omega arith in absurd z
+
+pub number-else : (xs : List ℕ) → (length xs ≡ 1 → ⊥) → (length xs ≡ 2 → ⊥) → (length xs ≡ 3 → ⊥) → number xs ≡ Bad
+unfolding number
+number-else [] f g h = refl
+number-else (a ∷ []) f g h = absurd (f refl)
+number-else (a ∷ b ∷ []) f g h = absurd (g refl)
+number-else (a ∷ b ∷ c ∷ []) f g h = absurd (h refl)
+number-else (a ∷ b ∷ c ∷ d ∷ xs) f g h = refl
+
+-- ---- words: two lists compared from the front, and the words in the order of their tests
+
+pub same-step : (i : ℕ) (xs ys : List ℕ) → i < length xs → i < length ys
+    → same (drop i xs) (drop i ys) ≡ (eqb (getD xs i 0) (getD ys i 0) && same (drop (i + 1) xs) (drop (i + 1) ys))
+unfolding same
+same-step i xs ys h k = rw add-one (go i xs ys h k) where
+  go : (i : ℕ) (xs ys : List ℕ) → i < length xs → i < length ys
+      → same (drop i xs) (drop i ys) ≡ (eqb (getD xs i 0) (getD ys i 0) && same (drop (suc i) xs) (drop (suc i) ys))
+  go i [] ys h k = let z : ⊥ = omega arith in absurd z
+  go i (x ∷ xs) [] h k = let z : ⊥ = omega arith in absurd z
+  go zero (x ∷ xs) (y ∷ ys) h k = refl
+  go (suc i) (x ∷ xs) (y ∷ ys) h k = go i xs ys (omega arith) (omega arith)
+
+pub same-not : (xs ys : List ℕ) → (length xs ≡ length ys → ⊥) → same xs ys ≡ false
+unfolding same
+same-not [] [] f = absurd (f refl)
+same-not [] (y ∷ ys) f = refl
+same-not (x ∷ xs) [] f = refl
+same-not (x ∷ xs) (y ∷ ys) f = rw (same-not xs ys (λ e. f (ap suc e))) (and-false (eqb x y))
+
+pub same-end : (i : ℕ) (xs ys : List ℕ) → length xs ≤ i → length ys ≤ i → same (drop i xs) (drop i ys) ≡ true
+unfolding same
+same-end i xs ys h k = rw (drop-of-length-le xs h, drop-of-length-le ys k) refl
+
+module _ (f : List ℕ) where
+  pub is-rand : same f (spelled Rand) ≡ true → Rand ≡ wordOf f
+  unfolding wordOf
+  is-rand a = simp (a)
+
+  pub is-pub : same f (spelled Rand) ≡ false → same f (spelled Pub) ≡ true → Pub ≡ wordOf f
+  unfolding wordOf
+  is-pub a b = simp (a, b)
+
+  pub is-xor : same f (spelled Rand) ≡ false → same f (spelled Pub) ≡ false → same f (spelled Xor) ≡ true → Xor ≡ wordOf f
+  unfolding wordOf
+  is-xor a b d = simp (a, b, d)
+
+  pub is-and : same f (spelled Rand) ≡ false → same f (spelled Pub) ≡ false → same f (spelled Xor) ≡ false → same f (spelled And) ≡ true → And ≡ wordOf f
+  unfolding wordOf
+  is-and a b d e = simp (a, b, d, e)
+
+  pub is-not : same f (spelled Rand) ≡ false → same f (spelled Pub) ≡ false → same f (spelled Xor) ≡ false → same f (spelled And) ≡ false → same f (spelled Not) ≡ true → Not ≡ wordOf f
+  unfolding wordOf
+  is-not a b d e g = simp (a, b, d, e, g)
+
+  pub is-out : same f (spelled Rand) ≡ false → same f (spelled Pub) ≡ false → same f (spelled Xor) ≡ false → same f (spelled And) ≡ false → same f (spelled Not) ≡ false → same f (spelled Out) ≡ true → Out ≡ wordOf f
+  unfolding wordOf
+  is-out a b d e g h = simp (a, b, d, e, g, h)
+
+  pub is-routine : same f (spelled Rand) ≡ false → same f (spelled Pub) ≡ false → same f (spelled Xor) ≡ false → same f (spelled And) ≡ false → same f (spelled Not) ≡ false → same f (spelled Out) ≡ false → same f (spelled Routine) ≡ true → Routine ≡ wordOf f
+  unfolding wordOf
+  is-routine a b d e g h i = simp (a, b, d, e, g, h, i)
+
+  pub is-other : same f (spelled Rand) ≡ false → same f (spelled Pub) ≡ false → same f (spelled Xor) ≡ false → same f (spelled And) ≡ false → same f (spelled Not) ≡ false → same f (spelled Out) ≡ false → same f (spelled Routine) ≡ false → Other ≡ wordOf f
+  unfolding wordOf
+  is-other a b d e g h i = simp (a, b, d, e, g, h, i)
+
+-- ---- cuts
+
+-- r is the place of the first s, or the end
+pub parted : (s : ℕ) (xs : List ℕ) (r : ℕ) → r ≤ length xs → ((k : ℕ) → k < r → getD xs k 0 ≡ s → ⊥) → (r < length xs → getD xs r 0 ≡ s) → Parted s xs r
+unfolding cut front
+parted s [] zero h f g = record { within = h; last = λ e. refl; more = λ n. absurd (n refl) }
+parted s [] (suc r) h f g = let z : ⊥ = omega arith in absurd z
+parted s (x ∷ xs) zero h f g = record { within = h; last = λ e. let z : ⊥ = omega arith in absurd z; more = λ n. simp (eq-eqb x s (g (omega arith))) }
+parted s (x ∷ xs) (suc r) h f g =
+    let p : Parted s xs r = parted s xs r (omega arith) (λ k l. f (suc k) (omega arith)) (λ l. g (omega arith)) in
+    let t = ne-eqb x s (f 0 (omega arith)) in
+    record { within = h; last = λ e. simp (t, p .last (omega arith)); more = λ n. simp (t, p .more (λ e. n (ap suc e)), add-one) }
+
+pub tail-is : (n : ℕ) (xs : List ℕ) → take (length xs - n) (drop n xs) ≡ drop n xs
+tail-is n xs = take-all (length xs - n) (drop n xs) (simp length-drop (omega arith))
+
+pub firstPart : List (List ℕ) → List ℕ
+firstPart [] = []
+firstPart (p ∷ ps) = p
+
+pub laterParts : List (List ℕ) → List (List ℕ)
+laterParts [] = []
+laterParts (p ∷ ps) = ps
+
+-- a cut has a first part
+pub cut-some : (s : ℕ) (xs : List ℕ) → cut s xs ≡ firstPart (cut s xs) ∷ laterParts (cut s xs)
+unfolding cut front firstPart laterParts
+cut-some s [] = refl
+cut-some s (x ∷ xs) = go (eqb x s) (cut s xs) (cut-some s xs) where
+  go : (b : Bool) (ps : List (List ℕ)) → ps ≡ firstPart ps ∷ laterParts ps
+      → cond b ([] ∷ ps) (front x ps) ≡ firstPart (cond b ([] ∷ ps) (front x ps)) ∷ laterParts (cond b ([] ∷ ps) (front x ps))
+  go b [] e = let z : _≡_ {A = ℕ} 0 1 = cc in absurd (let w : ⊥ = omega arith in w)
+  go true (p ∷ ps) e = refl
+  go false (p ∷ ps) e = refl
+
+-- ---- lines, field by field
+
+pub by-field : (w : List ℕ) (fs : List (List ℕ)) → ofFields (w ∷ fs) ≡ afterWord (wordOf w) fs
+unfolding ofFields
+by-field w [] = refl
+by-field w (a ∷ []) = refl
+by-field w (a ∷ b ∷ []) = refl
+by-field w (a ∷ b ∷ c ∷ []) = refl
+by-field w (a ∷ b ∷ c ∷ d ∷ ds) = refl
+
+-- a fourth number is one too many
+pub fourth-bad : (k : Word) (x y : Number) (f : List ℕ) (s : ℕ) (xs : List ℕ) → afterSecond k x y (f ∷ cut s xs) ≡ L.Bad
+fourth-bad k x y f s xs = rw (cut-some s xs)

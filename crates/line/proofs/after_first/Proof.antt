@@ -1,0 +1,48 @@
+-- `line::after_first` meets its contract: what follows is the last field, or there is a third number.
+use Rattle.document.specs.Lines.{cut}
+use Rattle.line.proofs.Laws.{by-field}
+use mathlib.Core.Path.{_≡_, sym, _∙_, ap}
+use borrow.Author.Needs.{needs}
+use Rattle.line.proofs.after_first.Statement.{statement}
+use Rattle.line.proofs.after_first.Tie as tie
+
+part-requires : tie.Need-part-requires
+part-requires c κs = search needs
+
+head-requires : tie.Need-head-requires
+head-requires c κs = search needs
+
+number-of-requires : tie.Need-number-of-requires
+number-of-requires c κs = search needs
+
+of-two-requires : tie.Need-of-two-requires
+of-two-requires c κs = search needs
+
+returns : tie.Need-returns
+returns c = rw (c .before .before .before .before .part .ensures .last (c .before .if1 .taken)) (cc)
+
+add-tail : tie.Need-add-tail
+add-tail c = search needs
+
+tail-requires : tie.Need-tail-requires
+tail-requires c κs = search needs
+
+after-second-requires : tie.Need-after-second-requires
+after-second-requires c κs = search needs
+
+returns-2 : tie.Need-returns-2
+returns-2 c = rw (c .before .before .before .before .before .part .ensures .more (c .before .before .if1 .left)) (cc)
+
+pub after-first-spec : {M : Type 1} → statement M
+after-first-spec =
+    tie.close
+    (tie.spec
+    part-requires
+    head-requires
+    number-of-requires
+    of-two-requires
+    returns
+    add-tail
+    tail-requires
+    after-second-requires
+    returns-2)

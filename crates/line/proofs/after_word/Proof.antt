@@ -1,0 +1,48 @@
+-- `line::after_word` meets its contract: what follows is the last field, or there is a second number.
+use Rattle.document.specs.Lines.{cut}
+use Rattle.line.proofs.Laws.{by-field}
+use mathlib.Core.Path.{_≡_, sym, _∙_, ap}
+use borrow.Author.Needs.{needs}
+use Rattle.line.proofs.after_word.Statement.{statement}
+use Rattle.line.proofs.after_word.Tie as tie
+
+part-requires : tie.Need-part-requires
+part-requires c κs = search needs
+
+head-requires : tie.Need-head-requires
+head-requires c κs = search needs
+
+number-of-requires : tie.Need-number-of-requires
+number-of-requires c κs = search needs
+
+of-one-requires : tie.Need-of-one-requires
+of-one-requires c κs = search needs
+
+returns : tie.Need-returns
+returns c = rw (c .before .before .before .before .part .ensures .last (c .before .if1 .taken)) (cc)
+
+add-tail : tie.Need-add-tail
+add-tail c = search needs
+
+tail-requires : tie.Need-tail-requires
+tail-requires c κs = search needs
+
+after-first-requires : tie.Need-after-first-requires
+after-first-requires c κs = search needs
+
+returns-2 : tie.Need-returns-2
+returns-2 c = rw (c .before .before .before .before .before .part .ensures .more (c .before .before .if1 .left)) (cc)
+
+pub after-word-spec : {M : Type 1} → statement M
+after-word-spec =
+    tie.close
+    (tie.spec
+    part-requires
+    head-requires
+    number-of-requires
+    of-one-requires
+    returns
+    add-tail
+    tail-requires
+    after-first-requires
+    returns-2)
