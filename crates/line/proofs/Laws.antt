@@ -1,5 +1,5 @@
 -- Laws on tests, numbers, words and cuts that the proofs of this crate cite.
-use mathlib.Core.Path.{_≡_, refl, sym, ap, _∙_}
+use mathlib.Core.Path.{_≡_, refl, ap}
 use mathlib.Core.Bool.{Bool, true, false, _&&_, cond, false≢true, and-false}
 use mathlib.Core.List.{List, [], _∷_}
 use Prim.Native.Nat.{ℕ, zero, suc, _+_, _-_, _≤_, _<_}
@@ -15,7 +15,6 @@ use Rattle.document.specs.declared.Number.{Number}
 use Rattle.document.specs.declared.Number.the-variants.{Bad}
 use Rattle.document.specs.declared.Word.{Word}
 use Rattle.document.specs.declared.Word.the-variants.{Other, Routine, Rand, Pub, Xor, And, Not, Out}
-use Rattle.document.specs.declared.Line.{Line}
 use Rattle.document.specs.declared.Line.the-variants as L
 use Rattle.line.specs.Parts.{Parted}
 use Rattle.line.specs.Fields.{afterWord, afterSecond}

@@ -3,9 +3,8 @@ use document::Line;
 use document::Number;
 use document::Word;
 ghost use mathlib.Core.Path.{_≡_};
-ghost use mathlib.Core.Bool.{true, false};
 ghost use mathlib.Core.List.{_∷_, []};
-ghost use Prim.Native.Nat.{ℕ, _+_, _-_, _≤_, _<_};
+ghost use Prim.Native.Nat.{_≤_};
 ghost use lib.ListN.{length, take, drop};
 ghost use Rattle.document.specs.Basics.{same};
 ghost use Rattle.document.specs.Lines.{cut, number, digit, lead, wordOf, with1, with2, with3, of1, of2, of3, lineOf};
@@ -61,7 +60,7 @@ fn is_lead(c: usize) -> bool
 }
 
 // A byte as a number of the code's own width.
-fn wide(c: u8) -> usize
+pub fn wide(c: u8) -> usize
     ensures { λ r. ⌜ r ≡ c ⌝ }
 {
     c as usize

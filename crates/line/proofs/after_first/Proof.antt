@@ -1,7 +1,4 @@
 -- `line::after_first` meets its contract: what follows is the last field, or there is a third number.
-use Rattle.document.specs.Lines.{cut}
-use Rattle.line.proofs.Laws.{by-field}
-use mathlib.Core.Path.{_≡_, sym, _∙_, ap}
 use borrow.Author.Needs.{needs}
 use Rattle.line.proofs.after_first.Statement.{statement}
 use Rattle.line.proofs.after_first.Tie as tie

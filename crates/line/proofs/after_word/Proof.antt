@@ -1,7 +1,4 @@
 -- `line::after_word` meets its contract: what follows is the last field, or there is a second number.
-use Rattle.document.specs.Lines.{cut}
-use Rattle.line.proofs.Laws.{by-field}
-use mathlib.Core.Path.{_≡_, sym, _∙_, ap}
 use borrow.Author.Needs.{needs}
 use Rattle.line.proofs.after_word.Statement.{statement}
 use Rattle.line.proofs.after_word.Tie as tie

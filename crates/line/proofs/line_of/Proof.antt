@@ -1,8 +1,7 @@
 -- `line::line_of` meets its contract: its first field is the word.
-use Rattle.document.specs.Lines.{cut}
 use Rattle.document.specs.Lines.{ofFields}
 use Rattle.line.proofs.Laws.{by-field}
-use mathlib.Core.Path.{_≡_, refl, sym, _∙_, ap}
+use mathlib.Core.Path.{refl}
 use borrow.Author.Needs.{needs}
 use Rattle.line.proofs.line_of.Statement.{statement}
 use Rattle.line.proofs.line_of.Tie as tie

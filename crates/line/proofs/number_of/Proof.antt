@@ -1,8 +1,6 @@
 -- `line::number_of` meets its contract: by the length of the field.
 use Rattle.line.proofs.Laws.{number-1, number-2, number-3, number-else}
-use Rattle.document.specs.Lines.{number}
-use mathlib.Core.Path.{sym, _∙_, ap}
-use native.Mathlib.Omega.{arith}
+use mathlib.Core.Path.{sym}
 use borrow.Author.Needs.{needs}
 use Rattle.line.proofs.number_of.Statement.{statement}
 use Rattle.line.proofs.number_of.Tie as tie

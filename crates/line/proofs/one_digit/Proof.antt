@@ -1,5 +1,5 @@
 -- `line::one_digit` meets its contract.
-use Rattle.line.proofs.Laws.{digit-is, lead-is}
+use Rattle.line.proofs.Laws.{digit-is}
 use Rattle.document.specs.Lines.{number}
 use mathlib.Core.Path.{sym, _∙_}
 use native.Mathlib.Omega.{arith}

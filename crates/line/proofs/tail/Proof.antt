@@ -1,6 +1,4 @@
 -- `line::tail` meets its contract: a part of a list to its end.
-use native.Mathlib.Omega.{arith}
-use lib.ListN.{length-drop}
 use Rattle.line.proofs.Laws.{tail-is}
 use borrow.Author.Needs.{needs}
 use Rattle.line.proofs.tail.Statement.{statement}

@@ -1,7 +1,7 @@
 -- `line::three_digits` meets its contract: all digits are in their ranges, so nothing wraps.
 use Rattle.line.proofs.Laws.{digit-is, lead-is}
 use Rattle.document.specs.Lines.{number}
-use mathlib.Core.Path.{sym, _∙_, ap}
+use mathlib.Core.Path.{sym, _∙_}
 use native.Mathlib.Omega.{arith}
 use borrow.Author.Needs.{needs}
 use Rattle.line.proofs.three_digits.Statement.{statement}

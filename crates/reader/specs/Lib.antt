@@ -1,0 +1,2 @@
+-- What the functions of this crate ask of each other, and worked texts.
+pub mod Sound
