@@ -1,2 +1,3 @@
 -- What the functions of this crate ask of each other, and worked texts.
 pub mod Sound
+pub mod TextExamples
