@@ -1,6 +1,6 @@
 -- Laws on tests, numbers, words and cuts that the proofs of this crate cite.
 use mathlib.Core.Path.{_≡_, refl, ap}
-use mathlib.Core.Bool.{Bool, true, false, _&&_, cond, false≢true, and-false}
+use mathlib.Core.Bool.{Bool, true, false, _&&_, cond, and-false}
 use mathlib.Core.List.{List, [], _∷_}
 use Prim.Native.Nat.{ℕ, zero, suc, _+_, _-_, _≤_, _<_}
 use native.Mathlib.Omega.{arith}
@@ -10,6 +10,7 @@ use lib.Seq.{take-all}
 use lib.Dec.{leb, eqb}
 use borrow.Author.Tests.{leb-true, eq-eqb, ne-eqb}
 use Rattle.document.specs.Basics.{same}
+use Rattle.document.specs.Laws.Tests.{and-l, and-r}
 use Rattle.document.specs.Lines.{cut, front, number, digit, lead, ofFields, wordOf, spelled}
 use Rattle.document.specs.declared.Number.{Number}
 use Rattle.document.specs.declared.Number.the-variants.{Bad}
@@ -21,16 +22,11 @@ use Rattle.line.specs.Fields.{afterWord, afterSecond}
 
 -- ---- tests
 
-pub both : (x y : Bool) → (x && y) ≡ true → (x ≡ true) × (y ≡ true)
-both true true h = (refl, refl)
-both true false h = absurd (false≢true h)
-both false y h = absurd (false≢true h)
-
 pub digit-is : (c : ℕ) → digit c ≡ true → (48 ≤ c) × (c ≤ 57)
-digit-is c h = let e = both (leb 48 c) (leb c 57) h in (leb-true _ _ (e .0), leb-true _ _ (e .1))
+digit-is c h = (leb-true _ _ (and-l (leb 48 c) (leb c 57) h), leb-true _ _ (and-r (leb 48 c) (leb c 57) h))
 
 pub lead-is : (c : ℕ) → lead c ≡ true → (49 ≤ c) × (c ≤ 57)
-lead-is c h = let e = both (leb 49 c) (leb c 57) h in (leb-true _ _ (e .0), leb-true _ _ (e .1))
+lead-is c h = (leb-true _ _ (and-l (leb 49 c) (leb c 57) h), leb-true _ _ (and-r (leb 49 c) (leb c 57) h))
 
 -- ---- numbers, by the length of the field
 

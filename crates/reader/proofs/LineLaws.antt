@@ -1,11 +1,12 @@
 -- Laws on one line: each test of the definition as the code makes it, and that a state stays below the ceilings.
-use mathlib.Core.Path.{_≡_, refl, sym, ap, _∙_}
-use mathlib.Core.Bool.{Bool, true, false, _&&_, cond, and-true}
+use mathlib.Core.Path.{_≡_, sym, ap, _∙_}
+use mathlib.Core.Bool.{Bool, true, false, _&&_, and-true}
 use Prim.Native.Nat.{ℕ, _+_, _≤_, _<_}
 use native.Mathlib.Omega.{arith}
 use lib.Dec.{leb, eqb, ltb}
 use borrow.Author.Tests.{leb-true, eqb-true, ltb-true, lt-ltb, le-ltb, lt-leb, le-leb}
 use Rattle.document.specs.Basics.{one, each}
+use Rattle.document.specs.Laws.Tests.{and-l, and-r, cond-cases}
 use Rattle.document.specs.Routine.{isRand, isPub}
 use Rattle.document.specs.Padding.{operandsOf}
 use Rattle.document.specs.Reading.{taken, notTaken, made, marked, isNext, earlier, hasRoom, make, markOut, takeLine}
@@ -16,14 +17,13 @@ use Rattle.document.specs.declared.Line.the-variants as L
 use Rattle.document.specs.declared.Refusal.the-variants as No
 use Rattle.document.specs.declared.State.{State}
 use Rattle.document.specs.declared.Taken.{Taken}
-use Rattle.line.proofs.Laws.{both}
 use Rattle.reader.specs.Sound.{Sound, unusedZero}
 
 -- ---- 6
 
 pub next-is : (st : State) (w : ℕ) → isNext st w ≡ true → w ≡ st .n
 unfolding isNext
-next-is st w h = eqb-true _ _ (both (eqb w (st .n)) (eqb (st .outs) 0) h .0)
+next-is st w h = eqb-true _ _ (and-l (eqb w (st .n)) (eqb (st .outs) 0) h)
 
 -- ---- 7
 
@@ -41,16 +41,14 @@ earlier-not w a b = and-true (ltb a w)
 
 both-zero : (w a b : ℕ) → (eqb a 0 && eqb b 0) ≡ true → (a ≤ w) × (b ≤ w)
 both-zero w a b h =
-    let e = both (eqb a 0) (eqb b 0) h in
-    let x = eqb-true a 0 (e .0) in
-    let y = eqb-true b 0 (e .1) in
+    let x = eqb-true a 0 (and-l (eqb a 0) (eqb b 0) h) in
+    let y = eqb-true b 0 (and-r (eqb a 0) (eqb b 0) h) in
     (omega arith, omega arith)
 
 both-below : (w a b : ℕ) → (ltb a w && ltb b w) ≡ true → (a ≤ w) × (b ≤ w)
 both-below w a b h =
-    let e = both (ltb a w) (ltb b w) h in
-    let x = ltb-true a w (e .0) in
-    let y = ltb-true b w (e .1) in
+    let x = ltb-true a w (and-l (ltb a w) (ltb b w) h) in
+    let y = ltb-true b w (and-r (ltb a w) (ltb b w) h) in
     (omega arith, omega arith)
 
 -- an operand that is earlier or unused is at most w
@@ -79,10 +77,11 @@ pub record Room (st : State) (k : Kind) : Type 0 where
 pub room-is : (st : State) (k : Kind) → hasRoom st k ≡ true → Room st k
 unfolding hasRoom
 room-is st k h =
-    let x = leb (st .rands + one (isRand k)) 64 in
-    let e = both (ltb (st .n) 128 && x) (leb (st .pubs + one (isPub k)) 16) h in
-    let f = both (ltb (st .n) 128) x (e .0) in
-    record { wires = ltb-true _ _ (f .0); rands = leb-true _ _ (f .1); pubs = leb-true _ _ (e .1) }
+    let x = ltb (st .n) 128 in
+    let y = leb (st .rands + one (isRand k)) 64 in
+    let z = leb (st .pubs + one (isPub k)) 16 in
+    let e = and-l (x && y) z h in
+    record { wires = ltb-true _ _ (and-l x y e); rands = leb-true _ _ (and-r x y e); pubs = leb-true _ _ (and-r (x && y) z h) }
 
 module _ (st : State) (k : Kind) where
   pub no-wire : 128 ≤ st .n → false ≡ hasRoom st k
@@ -122,29 +121,29 @@ module _ (st : State) (w : ℕ) (k : Kind) (a b : ℕ) where
 
 -- ---- the ceilings are kept
 
-cond-sound : (b : Bool) (x y : Taken) → (b ≡ true → Sound (x .state)) → Sound (y .state) → Sound (cond b x y .state)
-cond-sound true x y f g = f refl
-cond-sound false x y f g = g
-
 made-sound : (st : State) (k : Kind) (a b : ℕ) → hasRoom st k ≡ true → Sound (made st k a b)
 unfolding made
 made-sound st k a b h =
     let r = room-is st k h in
     record { few-wires = omega arith; few-rands = r .rands; few-pubs = r .pubs }
 
-make-sound : (st : State) (w : ℕ) (k : Kind) (a b : ℕ) → Sound st → Sound (make st w k a b .state)
+abbrev Keeps : Taken → Type 0
+Keeps t = Sound (t .state)
+
+make-sound : (st : State) (w : ℕ) (k : Kind) (a b : ℕ) → Sound st → Keeps (make st w k a b)
 unfolding make
 make-sound st w k a b g =
-    cond-sound (isNext st w) _ (notTaken No.Next st)
-    (λ _. cond-sound (earlier w k a b) _ (notTaken No.Operand st)
-    (λ _. cond-sound (hasRoom st k) (taken (made st k a b)) (notTaken No.Ceiling st) (made-sound st k a b) g) g) g
+    cond-cases Keeps (isNext st w) _ _
+    (λ _. cond-cases Keeps (earlier w k a b) _ _ (λ _. cond-cases Keeps (hasRoom st k) _ _ (made-sound st k a b) (λ _. g)) (λ _. g))
+    (λ _. g)
 
-mark-sound : (st : State) (w : ℕ) → Sound st → Sound (markOut st w .state)
+mark-sound : (st : State) (w : ℕ) → Sound st → Keeps (markOut st w)
 unfolding markOut marked
 mark-sound st w g =
-    cond-sound (ltb (st .outs) 64) _ (notTaken No.Ceiling st)
-    (λ _. cond-sound (ltb w (st .n) && leb (st .low) w) (taken (marked st w)) (notTaken No.Output st)
-    (λ _. record { few-wires = g .few-wires; few-rands = g .few-rands; few-pubs = g .few-pubs }) g) g
+    cond-cases Keeps (ltb (st .outs) 64) _ _
+    (λ _. cond-cases Keeps (ltb w (st .n) && leb (st .low) w) _ _
+    (λ _. record { few-wires = g .few-wires; few-rands = g .few-rands; few-pubs = g .few-pubs }) (λ _. g))
+    (λ _. g)
 
 pub take-sound : (st : State) (l : Line) → Sound st → Sound (takeLine st l .state)
 unfolding takeLine

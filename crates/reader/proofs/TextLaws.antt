@@ -11,6 +11,7 @@ use lib.ListN.{length, getD, take, drop, set, drop-of-length-le, length-drop}
 use lib.Seq.{drop-drop, drop-cons}
 use borrow.Author.Tests.{leb-true, lt-ltb, le-ltb, lt-leb, le-leb, eq-eqb, ne-eqb}
 use Rattle.document.specs.Basics.{each}
+use Rattle.document.specs.Laws.Tests.{and-l, and-r}
 use Rattle.document.specs.Routine.{inRange}
 use Rattle.document.specs.Lines.{cut, heads, lineOf, linesIn}
 use Rattle.document.specs.Reading.{takeLine, notRead, readAll, onward, readLines, shareRecords, begun, fromHeader, fromFirst, letter, reading}
@@ -21,7 +22,7 @@ use Rattle.document.specs.declared.Refusal.the-variants as No
 use Rattle.document.specs.declared.Outcome.the-variants.{Done, Refused}
 use Rattle.document.specs.declared.State.{State}
 use Rattle.document.specs.declared.Taken.{Taken}
-use Rattle.line.proofs.Laws.{both, cut-some}
+use Rattle.line.proofs.Laws.{cut-some}
 use Rattle.reader.specs.Sound.{Sound}
 use Rattle.reader.proofs.LineLaws.{take-sound}
 
@@ -45,10 +46,13 @@ pub record Ranged (s d : ℕ) : Type 0 where
 pub range-is : (s d : ℕ) → inRange s d ≡ true → Ranged s d
 unfolding inRange
 range-is s d h =
-    let e = both (leb 1 s && leb s 8 && leb 2 d) (leb d 8) h in
-    let f = both (leb 1 s && leb s 8) (leb 2 d) (e .0) in
-    let g = both (leb 1 s) (leb s 8) (f .0) in
-    record { secrets = leb-true _ _ (g .1); some-shares = leb-true _ _ (f .1); few-shares = leb-true _ _ (e .1) }
+    let x = leb 1 s && leb s 8 in
+    let e = and-l (x && leb 2 d) (leb d 8) h in
+    record {
+      secrets = leb-true _ _ (and-r (leb 1 s) (leb s 8) (and-l x (leb 2 d) e));
+      some-shares = leb-true _ _ (and-r x (leb 2 d) e);
+      few-shares = leb-true _ _ (and-r (x && leb 2 d) (leb d 8) h);
+    }
 
 pub few-shares : (s d : ℕ) → Ranged s d → s * d ≤ 64
 few-shares s d r = let z = mul-le-mul-right d (r .secrets) in omega arith

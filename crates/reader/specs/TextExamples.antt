@@ -7,7 +7,7 @@ use Prim.Native.String.{String, [] as none, _∷_ as _then_}
 use lib.ListN.{replicate}
 use Rattle.document.specs.Basics.{same, each}
 use Rattle.document.specs.Refusals.{numberOf}
-use Rattle.document.specs.Routine.{Routine, inRange}
+use Rattle.document.specs.Routine.{inRange}
 use Rattle.document.specs.Lines.{cut, front, heads, join, number, decimal, wordOf, ofFields, textOfLines}
 use Rattle.document.specs.Padding.{operandsOf}
 use Rattle.document.specs.Reading.{made, marked, isNext, earlier, hasRoom, make, markOut, takeLine, blanks, readLines, shareRecords, begun, fromHeader, fromFirst, reading, routineIn}

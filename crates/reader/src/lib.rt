@@ -116,14 +116,14 @@ fn with_mark(st: State, w: usize) -> State
     }
 }
 
-// 6
+// 6: w is the next wire, and no `out` came before.
 fn is_next(st: State, w: usize) -> bool
     ensures { λ r. ⌜ r ≡ isNext st w ⌝ }
 {
     w == st.n && st.outs == 0
 }
 
-// 7
+// 7: the operands that a wire of this kind has are earlier wires.
 fn is_earlier(w: usize, k: Kind, a: usize, b: usize) -> bool
     ensures { λ r. ⌜ r ≡ earlier w k a b ⌝ }
 {
@@ -137,7 +137,7 @@ fn is_earlier(w: usize, k: Kind, a: usize, b: usize) -> bool
     }
 }
 
-// 8
+// 8: the ceilings leave room for one more wire of this kind.
 fn has_room(st: State, k: Kind) -> bool
     requires { ⌜ Sound st ⌝ }
     ensures { λ r. ⌜ r ≡ hasRoom st k ⌝ }
@@ -387,8 +387,8 @@ fn all_letters(text: &[u8]) -> bool
 }
 
 // A whole text: any bytes, any number of them.
-// Linear in its length: each byte is looked at once for a bad one, once for an LF, once for a tab and within its field;
-// a part of the text is lent on and never copied, and a line costs one state besides.
+// Linear in its length: a byte is looked at once for 2, once for an LF, once for a tab, and in its field once as a digit
+// or seven times as a part of a word. Parts of the text are lent on and never copied; each line hands on one state.
 pub fn read(text: &[u8]) -> Read
     ensures { λ r. ⌜ r ≡ reading (now (text .entry)) ⌝ }
 {
