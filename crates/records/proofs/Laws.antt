@@ -1,0 +1,10 @@
+-- A small law of numbers that the proofs of this crate share.
+use mathlib.Core.Path.{_≡_}
+use mathlib.Core.Bool.{Bool, true, false}
+use Prim.Native.Nat.{ℕ, _≤_}
+use native.Mathlib.Omega.{arith}
+use Rattle.document.specs.Basics.{one}
+
+pub one-small : {k : ℕ} (b : Bool) → k ≡ one b → k ≤ 1
+one-small true e = omega arith
+one-small false e = omega arith

@@ -1,0 +1,2 @@
+-- What more than one proof of this crate leans on.
+pub mod Laws
