@@ -1,0 +1,22 @@
+-- `runner::words_fit` meets its contract, word by word.
+use borrow.Author.Needs.{needs}
+use Rattle.runner.specs.Run.{wordsFit}
+use Rattle.runner.proofs.words_fit.Statement.{statement}
+use Rattle.runner.proofs.words_fit.Tie as tie
+
+word-fits-requires : tie.Need-word-fits-requires
+word-fits-requires c κs = search needs
+
+word-fits-requires-2 : tie.Need-word-fits-requires-2
+word-fits-requires-2 c κs = search needs
+
+word-fits-requires-3 : tie.Need-word-fits-requires-3
+word-fits-requires-3 c κs = search needs
+
+returns : tie.Need-returns
+unfolding wordsFit
+returns c = cc
+
+pub words-fit-spec : {M : Type 1} → statement M
+words-fit-spec =
+    tie.close (tie.spec word-fits-requires word-fits-requires-2 word-fits-requires-3 returns)

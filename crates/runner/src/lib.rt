@@ -1,0 +1,154 @@
+// Running a routine: 0 or 1 for each of its wires, written into a lent buffer.
+use document::Kind;
+use document::Outcome;
+use document::Ran;
+use document::Refusal;
+use document::Wire;
+use records::Counts;
+ghost use mathlib.Core.Path.{_≡_};
+ghost use mathlib.Core.List.{_++_};
+ghost use Prim.Native.Nat.{_-_, _^_, _≤_, _<_};
+ghost use lib.Dec.{ltb};
+ghost use lib.ListN.{length, getD, take, drop, set};
+ghost use Rattle.document.specs.Running.{bit, gives, bits};
+ghost use Rattle.runner.specs.Laws.{values};
+ghost use Rattle.runner.specs.Run.{Answered, refused, valueFrom, SmallCounts, wordsFit};
+
+// Bit k of the word; beyond its 64 bits it has none set.
+fn bit_at(word: u64, k: usize) -> u8
+    ensures { λ r. ⌜ r ≡ getD (bits 64 word) k 0 ⌝ }
+{
+    if k < 64 {
+        let shifted = word >> k;
+        (shifted & 1) as u8
+    } else {
+        0
+    }
+}
+
+fn turned(v: u8) -> u8
+    ensures { λ r. ⌜ r ≡ 1 - v ⌝ }
+{
+    if v == 0 { 1 } else { 0 }
+}
+
+// What a wire of the kind gives, from its share, random or public bit or the values of its operands.
+fn value_of(k: Kind, share: u8, random: u8, public: u8, a: u8, b: u8) -> u8
+    ensures { λ r. ⌜ r ≡ gives bit k share random public a b ⌝ }
+{
+    match k {
+        Kind::Share => share,
+        Kind::Rand => random,
+        Kind::Pub => public,
+        Kind::Xor => a ^ b,
+        Kind::And => a & b,
+        Kind::Not => turned(a),
+    }
+}
+
+// The value of wire u, if it is one of the w wires that have theirs.
+fn earlier(buf: &[u8], w: usize, u: usize) -> u8
+    requires { ⌜ w ≤ length (now buf) ⌝ }
+    ensures { λ r. ⌜ r ≡ getD (take w (now (buf .entry))) u 0 ⌝ }
+{
+    if u < w { buf[u] } else { 0 }
+}
+
+// Writes the value of wire w, whose record is x.
+fn put_value(w: usize, x: Wire, share: u8, random: u8, public: u8, buf: &mut [u8])
+    requires { ⌜ w < length (now buf) ⌝ }
+    ensures { λ _. ⌜ now (buf .exit) ≡ set (now (buf .entry)) w (valueFrom (now (buf .entry)) w x share random public) ⌝ }
+{
+    let a = earlier(buf, w, x.a as usize);
+    let b = earlier(buf, w, x.b as usize);
+    let k = x.kind;
+    buf[w] = value_of(k, share, random, public, a, b);
+}
+
+// The word has no bit set from bit k on.
+fn word_fits(word: u64, k: usize) -> bool
+    requires { ⌜ k ≤ 64 ⌝ }
+    ensures { λ r. ⌜ r ≡ ltb word (2 ^ k) ⌝ }
+{
+    // a shift by 64 is none: every word has 64 bits
+    if k == 64 {
+        true
+    } else {
+        let bound: u64 = 1 << k;
+        word < bound
+    }
+}
+
+// No share, random or public bit is set beyond the routine's own.
+fn words_fit(first: usize, c: Counts, shares: u64, randoms: u64, publics: u64) -> bool
+    requires { ⌜ SmallCounts first c ⌝ }
+    ensures { λ r. ⌜ r ≡ wordsFit first c shares randoms publics ⌝ }
+{
+    word_fits(shares, first) & word_fits(randoms, c.rands) & word_fits(publics, c.pubs)
+}
+
+fn refusal(f: Refusal) -> Ran
+    ensures { λ r. ⌜ r ≡ refused f ⌝ }
+{
+    Ran {
+        outcome: Outcome::Refused(f),
+        len: 0,
+    }
+}
+
+// Writes the value of each of the n wires, the randoms and publics counted on the way.
+fn put_values(n: usize, ws: [Wire; 128], shares: u64, randoms: u64, publics: u64, buf: &mut [u8])
+    requires { ⌜ (n ≤ 128) × (n ≤ length (now buf)) ⌝ }
+    ensures { λ _. ⌜ now (buf .exit) ≡ values n ws shares randoms publics n ++ drop n (now (buf .entry)) ⌝ }
+{
+    let mut c = Counts {
+        rands: 0,
+        pubs: 0,
+        outs: 0,
+    };
+    let mut w = 0;
+    while w < n {
+        let x = ws[w];
+        put_value(
+            w,
+            x,
+            bit_at(shares, w),
+            bit_at(randoms, c.rands),
+            bit_at(publics, c.pubs),
+            buf,
+        );
+        let next = records::count_record(c, x);
+        c = next;
+        w += 1;
+    }
+}
+
+// Runs the routine of S, D, n and the first n records.
+pub fn run(
+    s: usize,
+    d: usize,
+    n: usize,
+    ws: [Wire; 128],
+    shares: u64,
+    randoms: u64,
+    publics: u64,
+    buf: &mut [u8],
+) -> Ran
+    ensures { λ r. ⌜ Answered s d n ws shares randoms publics (now (buf .entry)) r (now (buf .exit)) ⌝ }
+{
+    if !records::records_fit(s, d, n, ws) {
+        return refusal(Refusal::Records);
+    }
+    let counts = records::count_records(n, ws);
+    if !words_fit(s * d, counts, shares, randoms, publics) {
+        return refusal(Refusal::Bits);
+    }
+    if buf.len() < n {
+        return refusal(Refusal::Buffer);
+    }
+    put_values(n, ws, shares, randoms, publics, buf);
+    Ran {
+        outcome: Outcome::Done,
+        len: n,
+    }
+}
