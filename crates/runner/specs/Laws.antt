@@ -1,6 +1,6 @@
 -- Laws of running: bits of a word, the values wire by wire, and the answer to each test.
 use mathlib.Core.Path.{_≡_, refl, sym, ap, _∙_}
-use mathlib.Core.Bool.{true, false}
+use mathlib.Core.Bool.{Bool, true, false}
 use mathlib.Core.List.{List, [], _∷_, _++_, append-assoc}
 use Prim.Native.Nat.{ℕ, zero, suc, _+_, _*_, _/_, _%_, _^_, _≤_, _<_}
 use native.Mathlib.Nat.{not-suc-le-zero, le-of-suc-le-suc, div-one, one-mul, pow-succ', div-div-eq-div-mul}
@@ -105,7 +105,7 @@ module _ (n : ℕ) (ws : List Wire) (shares randoms publics : ℕ) where
       t ∙ rw (p, q, r, counted) (values-more k b b₀ h l e)
 
   -- all values
-  pub values-all : (s d : ℕ) → n ≤ length ws → values n ≡ bitValues (routineOf s d n ws) shares randoms publics
+  values-all : (s d : ℕ) → n ≤ length ws → values n ≡ bitValues (routineOf s d n ws) shares randoms publics
   unfolding values bitValues running
   values-all s d h = rw (length-take-le n ws h) (sym (values-any s d n ws (bits 64 shares) (bits 64 randoms) (bits 64 publics) n))
 
@@ -135,23 +135,30 @@ module _ (s d n : ℕ) (ws : List Wire) (shares randoms publics : ℕ) (b : List
     unfolding bitsFit wordsFit
     words-are = rw (length-take-le n ws long, rands-is s d n ws n (omega arith), pubs-is s d n ws n (omega arith))
 
-    pub not-bits : wordsFit (s * d) (countsOf n ws) shares randoms publics ≡ false → Answered s d n ws shares randoms publics b (refused Bits) b
-    unfolding runAnswer runBuffer ran ranInto runRefusal
-    not-bits e = let f = words-are ∙ e in record { said = simp (leb-long, well, f); left = simp (leb-long, well, f) }
+    -- the code's test of 14, from the counts c that it has and its outcome t
+    bits-told : {c : Counts} {t v : Bool} → c ≡ countsOf n ws → t ≡ wordsFit (s * d) c shares randoms publics → t ≡ v → bitsFit (routineOf s d n ws) shares randoms publics ≡ v
+    bits-told e f g = words-are ∙ ap (λ (k : Counts). wordsFit (s * d) k shares randoms publics) (sym e) ∙ sym f ∙ g
 
-    module _ (bits-fit : wordsFit (s * d) (countsOf n ws) shares randoms publics ≡ true) where
-      pub not-buffer : length b < n → Answered s d n ws shares randoms publics b (refused Buffer) b
+    module _ {c : Counts} {t : Bool} (counted : c ≡ countsOf n ws) (tested : t ≡ wordsFit (s * d) c shares randoms publics) where
+      pub not-bits : t ≡ false → Answered s d n ws shares randoms publics b (refused Bits) b
       unfolding runAnswer runBuffer ran ranInto runRefusal
-      not-buffer h =
-          let f = words-are ∙ bits-fit in
+      not-bits e = let f = bits-told counted tested e in record { said = simp (leb-long, well, f); left = simp (leb-long, well, f) }
+
+      pub not-buffer : t ≡ true → length b < n → Answered s d n ws shares randoms publics b (refused Buffer) b
+      unfolding runAnswer runBuffer ran ranInto runRefusal
+      not-buffer e h =
+          let f = bits-told counted tested e in
           let z = length-take-le n ws long in
           let l = lt-leb n (length b) h in
           record { said = simp (leb-long, well, f, z, l); left = simp (leb-long, well, f, z, l) }
 
-      pub done : n ≤ length b → Answered s d n ws shares randoms publics b (record { outcome = Done; len = n }) (bitValues (routineOf s d n ws) shares randoms publics ++ drop n b)
+      pub done : {a : List ℕ} → t ≡ true → n ≤ length b → a ≡ values n ws shares randoms publics n ++ drop n b → Answered s d n ws shares randoms publics b (record { outcome = Done; len = n }) a
       unfolding runAnswer runBuffer ran ranInto runRefusal
-      done h =
-          let f = words-are ∙ bits-fit in
+      done e h k =
+          let f = bits-told counted tested e in
           let z = length-take-le n ws long in
           let l = le-leb n (length b) h in
-          record { said = simp (leb-long, well, f, z, l); left = simp (leb-long, well, f, z, l) }
+          record {
+            said = simp (leb-long, well, f, z, l);
+            left = simp (leb-long, well, f, z, l) (k ∙ ap (λ (v : List ℕ). v ++ drop n b) (values-all n ws shares randoms publics s d long));
+          }

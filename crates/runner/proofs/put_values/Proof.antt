@@ -54,7 +54,7 @@ loop-again c = let s = c .before .before .before .before .before .before .before
     let e = c .before .before .before .put-value .ensures in
     let l : q .loop .w < length (s .args .buf .now) = omega (arith, s .pre .1) in (
       omega arith,
-      ap length e ∙ simp length-set (q .loop .inv .1),
+      rw (e, length-set) (q .loop .inv .1),
       c .count-record .ensures ∙ ap (λ (k : Counts). withRecord k (recordAt (s .args .t2) (q .loop .w))) (q .loop .inv .2) ∙ sym (counts-more (q .loop .w) (s .args .t2)),
       values-turn (s .args .n) (s .args .t2) (s .args .shares) (s .args .randoms) (s .args .publics)
           (q .loop .w) (q .loop .buf) (s .args .buf .now) _ (q .loop .c) _ _ _

@@ -1,13 +1,10 @@
 -- `runner::run` meets its contract; each return is the answer to one test.
-use mathlib.Core.Path.{sym, ap, _∙_}
-use Prim.Native.Nat.{_*_}
+use mathlib.Core.Path.{sym, _∙_}
 use native.Mathlib.Omega.{arith}
 use borrow.Author.Tests.{not-true, not-false}
 use borrow.Author.Needs.{needs}
 use Rattle.records.specs.Fit.{fit-of}
-use Rattle.records.specs.declared.Counts.{Counts}
-use Rattle.runner.specs.Laws.{values-all, not-records, not-bits, not-buffer, done}
-use Rattle.runner.specs.Run.{wordsFit}
+use Rattle.runner.specs.Laws.{not-records, not-bits, not-buffer, done}
 use Rattle.runner.proofs.run.Statement.{statement}
 use Rattle.runner.proofs.run.Tie as tie
 
@@ -41,16 +38,14 @@ refusal-requires-2 c κs = search needs
 
 returns-2 : tie.Need-returns-2
 returns-2 c = let s = c .before .before .before .before .before .before .before in
-    rw (c .refusal2 .ensures) (not-bits (s .args .s) (s .args .d) (s .args .n) (s .args .ws) (s .args .shares) (s .args .randoms) (s .args .publics) (s .args .buf .now) (sym (c .before .before .before .before .before .records-fit .ensures) ∙ not-false _ (c .before .before .before .before .if1 .left))
-    (ap (λ (k : Counts). wordsFit (s .args .s * s .args .d) k (s .args .shares) (s .args .randoms) (s .args .publics)) (sym (c .before .before .before .count-records .ensures)) ∙ sym (c .before .before .words-fit .ensures) ∙ not-true _ (c .before .if2 .taken)))
+    rw (c .refusal2 .ensures) (not-bits (s .args .s) (s .args .d) (s .args .n) (s .args .ws) (s .args .shares) (s .args .randoms) (s .args .publics) (s .args .buf .now) (sym (c .before .before .before .before .before .records-fit .ensures) ∙ not-false _ (c .before .before .before .before .if1 .left)) (c .before .before .before .count-records .ensures) (c .before .before .words-fit .ensures) (not-true _ (c .before .if2 .taken)))
 
 refusal-requires-3 : tie.Need-refusal-requires-3
 refusal-requires-3 c κs = search needs
 
 returns-3 : tie.Need-returns-3
 returns-3 c = let s = c .before .before .before .before .before .before .before .before in
-    rw (c .refusal3 .ensures) (not-buffer (s .args .s) (s .args .d) (s .args .n) (s .args .ws) (s .args .shares) (s .args .randoms) (s .args .publics) (s .args .buf .now) (sym (c .before .before .before .before .before .before .records-fit .ensures) ∙ not-false _ (c .before .before .before .before .before .if1 .left))
-    (ap (λ (k : Counts). wordsFit (s .args .s * s .args .d) k (s .args .shares) (s .args .randoms) (s .args .publics)) (sym (c .before .before .before .before .count-records .ensures)) ∙ sym (c .before .before .before .words-fit .ensures) ∙ not-false _ (c .before .before .if2 .left)) (c .before .if3 .taken))
+    rw (c .refusal3 .ensures) (not-buffer (s .args .s) (s .args .d) (s .args .n) (s .args .ws) (s .args .shares) (s .args .randoms) (s .args .publics) (s .args .buf .now) (sym (c .before .before .before .before .before .before .records-fit .ensures) ∙ not-false _ (c .before .before .before .before .before .if1 .left)) (c .before .before .before .before .count-records .ensures) (c .before .before .before .words-fit .ensures) (not-false _ (c .before .before .if2 .left)) (c .before .if3 .taken))
 
 put-values-requires : tie.Need-put-values-requires
 put-values-requires c κs = let s = c .before .before .before .before .before .before .before .before in
@@ -61,9 +56,7 @@ same-length c = search needs
 
 returns-4 : tie.Need-returns-4
 returns-4 c = let s = c .before .before .before .before .before .before .before .before .before .before .before in
-    let f = sym (c .before .before .before .before .before .before .before .before .before .records-fit .ensures) ∙ not-false _ (c .before .before .before .before .before .before .before .before .if1 .left) in
-    rw (c .before .before .put-values .ensures, values-all (s .args .n) (s .args .ws) (s .args .shares) (s .args .randoms) (s .args .publics) (s .args .s) (s .args .d) (fit-of (s .args .s) (s .args .d) (s .args .n) (s .args .ws) f .long))
-    (done (s .args .s) (s .args .d) (s .args .n) (s .args .ws) (s .args .shares) (s .args .randoms) (s .args .publics) (s .args .buf .now) f (ap (λ (k : Counts). wordsFit (s .args .s * s .args .d) k (s .args .shares) (s .args .randoms) (s .args .publics)) (sym (c .before .before .before .before .before .before .before .count-records .ensures)) ∙ sym (c .before .before .before .before .before .before .words-fit .ensures) ∙ not-false _ (c .before .before .before .before .before .if2 .left)) (c .before .before .before .before .if3 .left))
+    done (s .args .s) (s .args .d) (s .args .n) (s .args .ws) (s .args .shares) (s .args .randoms) (s .args .publics) (s .args .buf .now) (sym (c .before .before .before .before .before .before .before .before .before .records-fit .ensures) ∙ not-false _ (c .before .before .before .before .before .before .before .before .if1 .left)) (c .before .before .before .before .before .before .before .count-records .ensures) (c .before .before .before .before .before .before .words-fit .ensures) (not-false _ (c .before .before .before .before .before .if2 .left)) (c .before .before .before .before .if3 .left) (c .before .before .put-values .ensures)
 
 pub run-spec : {M : Type 1} → statement M
 run-spec =
