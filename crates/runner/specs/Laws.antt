@@ -22,7 +22,8 @@ use Rattle.records.specs.declared.Counts.{Counts}
 use Rattle.records.specs.Records.{recordAt, countsOf}
 use Rattle.records.specs.Laws.{wire-is, rands-is, pubs-is}
 use Rattle.records.specs.Fit.{long-of}
-use Rattle.runner.specs.Run.{refused, runAnswer, runBuffer, Answered, valueFrom, wordsFit}
+use Rattle.document.specs.Lent.{lent, lentRan, lentRanInto}
+use Rattle.runner.specs.Run.{refused, Answered, valueFrom, wordsFit}
 
 -- ---- bits of a word
 
@@ -113,7 +114,7 @@ module _ (n : ℕ) (ws : List Wire) (shares randoms publics : ℕ) where
 
 module _ (s d n : ℕ) (ws : List Wire) (shares randoms publics : ℕ) (b : List ℕ) where
   pub not-records : recordsFit s d n ws ≡ false → Answered s d n ws shares randoms publics b (refused Records) b
-  unfolding runAnswer runBuffer ran ranInto runRefusal recordsFit
+  unfolding lent lentRan lentRanInto ran ranInto runRefusal recordsFit
   not-records e =
       bool-cases
       (leb n (length ws))
@@ -141,11 +142,11 @@ module _ (s d n : ℕ) (ws : List Wire) (shares randoms publics : ℕ) (b : List
 
     module _ {c : Counts} {t : Bool} (counted : c ≡ countsOf n ws) (tested : t ≡ wordsFit (s * d) c shares randoms publics) where
       pub not-bits : t ≡ false → Answered s d n ws shares randoms publics b (refused Bits) b
-      unfolding runAnswer runBuffer ran ranInto runRefusal
+      unfolding lent lentRan lentRanInto ran ranInto runRefusal
       not-bits e = let f = bits-told counted tested e in record { said = simp (leb-long, well, f); left = simp (leb-long, well, f) }
 
       pub not-buffer : t ≡ true → length b < n → Answered s d n ws shares randoms publics b (refused Buffer) b
-      unfolding runAnswer runBuffer ran ranInto runRefusal
+      unfolding lent lentRan lentRanInto ran ranInto runRefusal
       not-buffer e h =
           let f = bits-told counted tested e in
           let z = length-take-le n ws long in
@@ -153,7 +154,7 @@ module _ (s d n : ℕ) (ws : List Wire) (shares randoms publics : ℕ) (b : List
           record { said = simp (leb-long, well, f, z, l); left = simp (leb-long, well, f, z, l) }
 
       pub done : {a : List ℕ} → t ≡ true → n ≤ length b → a ≡ values n ws shares randoms publics n ++ drop n b → Answered s d n ws shares randoms publics b (record { outcome = Done; len = n }) a
-      unfolding runAnswer runBuffer ran ranInto runRefusal
+      unfolding lent lentRan lentRanInto ran ranInto runRefusal
       done e h k =
           let f = bits-told counted tested e in
           let z = length-take-le n ws long in

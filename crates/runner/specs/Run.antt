@@ -1,16 +1,15 @@
--- A run of S, D, n and a list of records: its answer and the buffer after it, also where the list is shorter than n.
+-- What a run of S, D, n and a list of records promises: its answer and the buffer after it; and the parts of a run.
 use mathlib.Core.Path.{_≡_, sym, _∙_}
-use mathlib.Core.Bool.{Bool, _&&_, cond}
+use mathlib.Core.Bool.{Bool, _&&_}
 use mathlib.Core.List.{List}
 use Prim.Native.Nat.{ℕ, _^_, _≤_}
-use lib.Dec.{ltb, leb}
-use lib.ListN.{length, getD, take}
-use Rattle.document.specs.Routine.{routineOf}
-use Rattle.document.specs.Running.{bit, gives, ran, ranInto}
+use lib.Dec.{ltb}
+use lib.ListN.{getD, take}
+use Rattle.document.specs.Running.{bit, gives}
+use Rattle.document.specs.Lent.{lentRan, lentRanInto}
 use Rattle.document.specs.declared.Outcome.the-variants.{Refused}
 use Rattle.document.specs.declared.Ran.{Ran}
 use Rattle.document.specs.declared.Refusal.{Refusal}
-use Rattle.document.specs.declared.Refusal.the-variants.{Records}
 use Rattle.document.specs.declared.Wire.{Wire}
 use Rattle.records.specs.declared.Counts.{Counts}
 
@@ -18,18 +17,10 @@ use Rattle.records.specs.declared.Counts.{Counts}
 abbrev pub refused : Refusal → Ran
 refused f = record { outcome = Refused f; len = 0 }
 
--- the answer; 11 is also "the list is shorter than n"
-unfoldable pub runAnswer : ℕ → ℕ → ℕ → List Wire → ℕ → ℕ → ℕ → List ℕ → Ran
-runAnswer s d n ws shares randoms publics buffer = cond (leb n (length ws)) (ran (routineOf s d n ws) shares randoms publics buffer) (refused Records)
-
--- the buffer after it
-unfoldable pub runBuffer : ℕ → ℕ → ℕ → List Wire → ℕ → ℕ → ℕ → List ℕ → List ℕ
-runBuffer s d n ws shares randoms publics buffer = cond (leb n (length ws)) (ranInto (routineOf s d n ws) shares randoms publics buffer) buffer
-
 -- what a run promises of its answer r and of the buffer after it
 pub record Answered (s d n : ℕ) (ws : List Wire) (shares randoms publics : ℕ) (buffer : List ℕ) (r : Ran) (after : List ℕ) : Type 0 where
-  pub said : r ≡ runAnswer s d n ws shares randoms publics buffer
-  pub left : after ≡ runBuffer s d n ws shares randoms publics buffer
+  pub said : r ≡ lentRan s d n ws shares randoms publics buffer
+  pub left : after ≡ lentRanInto s d n ws shares randoms publics buffer
 
 -- two answers that the promise allows are equal, and so are the buffers
 pub once :

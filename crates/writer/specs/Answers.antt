@@ -14,13 +14,14 @@ use Rattle.document.specs.declared.Outcome.the-variants.{Done}
 use Rattle.document.specs.declared.Refusal.the-variants.{Records, Buffer}
 use Rattle.document.specs.declared.Wire.{Wire}
 use Rattle.records.specs.Fit.{long-of, fit-of}
-use Rattle.writer.specs.Write.{refused, writeAnswer, writeBuffer, Answered}
+use Rattle.document.specs.Lent.{lent, lentWritten, lentWrittenInto}
+use Rattle.writer.specs.Write.{refused, Answered}
 use Rattle.writer.specs.Parts.{textParts, text-is}
 use Rattle.writer.specs.Put.{Put, wrote-first}
 
 module _ (s d n : ℕ) (ws : List Wire) (b : List ℕ) where
   pub not-records : recordsFit s d n ws ≡ false → Answered s d n ws b (refused Records) b
-  unfolding writeAnswer writeBuffer written writtenInto writeRefusal recordsFit
+  unfolding lent lentWritten lentWrittenInto written writtenInto writeRefusal recordsFit
   not-records e =
       bool-cases
       (leb n (length ws))
@@ -39,11 +40,11 @@ module _ (s d n : ℕ) (ws : List Wire) (b : List ℕ) where
     text = text-is s d n ws (fit-of s d n ws fit)
 
     pub not-buffer : length b < length (textParts s d n ws) → Answered s d n ws b (refused Buffer) b
-    unfolding writeAnswer writeBuffer written writtenInto writeRefusal
+    unfolding lent lentWritten lentWrittenInto written writtenInto writeRefusal
     not-buffer h = let l = lt-leb (length (textParts s d n ws)) (length b) h in record { said = simp (long, well, text, l); left = simp (long, well, text, l) }
 
     pub done : {r : ℕ} {c : List ℕ} → length (textParts s d n ws) ≤ length b → Put b 0 (textParts s d n ws) r c → Answered s d n ws b (record { outcome = Done; len = r }) c
-    unfolding writeAnswer writeBuffer written writtenInto writeRefusal
+    unfolding lent lentWritten lentWrittenInto written writtenInto writeRefusal
     done {r} h p =
         let l = le-leb (length (textParts s d n ws)) (length b) h in
         let e : r ≡ length (textParts s d n ws) = omega (arith, p .next) in
