@@ -1,0 +1,173 @@
+#!/usr/bin/env python3
+"""The cases of crate `sets`, and what each should give, by a model of its own written from the document.
+
+    tools/sets_cases.py stdin  > crates/sets/stdin     the routines, each ended by a zero byte
+    tools/sets_cases.py stdout > crates/sets/stdout    what the program should print
+"""
+import sys
+from itertools import combinations
+
+from texts_cases import EXAMPLE_A, read, text
+
+
+def emitter(lines, first):
+    """Appends wire lines, each the next wire; gives the wire's number."""
+    count = [first]
+
+    def emit(word, *operands):
+        lines.append(" ".join([word, str(count[0])] + [str(v) for v in operands]))
+        count[0] += 1
+        return count[0] - 1
+
+    return emit
+
+
+def sec_mult(d):
+    """SecMult of document 000, gadget 7: each assignment a new wire, operands in the printed order."""
+    lines = [f"routine 2 {d}"]
+    emit = emitter(lines, 2 * d)
+    c = [emit("and", i, d + i) for i in range(d)]
+    for i in range(d):
+        for j in range(i + 1, d):
+            r = emit("rand")
+            c[i] = emit("xor", c[i], r)
+            r = emit("xor", r, emit("and", i, d + j))
+            r = emit("xor", r, emit("and", j, d + i))
+            c[j] = emit("xor", c[j], r)
+    return lines + [f"out {w}" for w in sorted(c)]
+
+
+def refresh_m(d):
+    """RefreshM of document 000, gadget 4b."""
+    lines = [f"routine 1 {d}"]
+    emit = emitter(lines, d)
+    c = list(range(d))
+    for i in range(d):
+        for j in range(i + 1, d):
+            r = emit("rand")
+            c[i] = emit("xor", c[i], r)
+            c[j] = emit("xor", c[j], r)
+    return lines + [f"out {w}" for w in sorted(c)]
+
+
+FIGURE_4 = ["routine 1 4", "rand 4", "xor 5 0 4", "xor 6 3 4", "rand 7", "xor 8 1 7", "xor 9 6 7", "rand 10", "xor 11 2 10", "xor 12 9 10"]
+
+ROUTINES = [
+    EXAMPLE_A,
+    ["routine 1 2", "xor 2 0 1"],
+    ["routine 2 2", "and 4 0 3", "and 5 1 2", "xor 6 4 5"],
+    ["routine 1 2", "xor 2 0 1", "xor 3 2 0"],
+    ["routine 1 2", "rand 2", "xor 3 2 2", "xor 4 0 3"],
+    FIGURE_4,
+    FIGURE_4 + ["out 5", "out 8", "out 11", "out 12"],
+    # a step frees a lower wire; a padded wire that is probed; both operands serve; an `and` with a random; publics and nots
+    ["routine 1 3", "rand 3", "xor 4 0 3", "rand 5", "xor 6 3 5"],
+    ["routine 1 3", "rand 3", "xor 4 0 3", "xor 5 1 4"],
+    ["routine 1 2", "rand 2", "rand 3", "xor 4 3 2", "xor 5 0 4"],
+    ["routine 1 2", "rand 2", "and 3 0 2", "pub 4", "xor 5 0 4", "not 6 2", "xor 7 1 6"],
+    ["routine 1 2", "out 0"],
+    # eight shares: order 4 is judged, 5 is not
+    ["routine 1 8", "rand 8", "xor 9 0 8"],
+    # sixty-four shares: words are full
+    ["routine 8 8", "xor 64 0 8", "rand 65", "xor 66 64 65"],
+    sec_mult(3),
+    sec_mult(4),
+    refresh_m(3),
+    refresh_m(4),
+    refresh_m(5),
+]
+
+
+# ---- the model: live by searching until nothing changes, consumers by looking at every wire
+
+def operands(wire):
+    word, a, b, _ = wire
+    return {b"xor": (a, b), b"and": (a, b), b"not": (a,)}.get(word, ())
+
+
+def live_of(wires, probed, leaves):
+    live, grew = set(probed), True
+    while grew:
+        more = {v for u in live if u not in leaves for v in operands(wires[u])}
+        grew = not more <= live
+        live |= more
+    return live
+
+
+def steps_of(wires, probed):
+    leaves, steps = {w for w, x in enumerate(wires) if x[0] == b"rand"}, []
+    while True:
+        live = live_of(wires, probed, leaves)
+        inner = [u for u in sorted(live) if u not in leaves]
+        found = [
+            (w, r)
+            for w in inner
+            if wires[w][0] == b"xor" and wires[w][1] != wires[w][2]
+            for r in sorted(operands(wires[w]))
+            if r in leaves and r not in probed and all(u == w or r not in operands(wires[u]) for u in inner)
+        ]
+        if not found:
+            return steps, live
+        steps.append(found[0])
+        leaves.add(found[0][0])
+
+
+def needed(s, d, wires, probed):
+    live = steps_of(wires, probed)[1]
+    return [sum(i * d + j in live for j in range(d)) for i in range(s)], sum(1 << k for k in range(s * d) if k in live)
+
+
+def judge(s, d, wires, strong, t):
+    count = 0
+    for size in range(1, (t - 1 if strong else t) + 1):
+        for probed in combinations(range(len(wires)), size):
+            count += 1
+            bound = sum(not wires[w][3] for w in probed) if strong else t
+            if max(needed(s, d, wires, probed)[0]) > bound:
+                return f"open {count} " + " ".join(map(str, probed))
+    return f"pass {count}"
+
+
+def shown(lines):
+    s, d, wires = read(text(*lines))
+    n = len(wires)
+    out = [f"routine {s} {d} {n}"]
+    for t in range(0, 6):
+        for strong in (False, True):
+            fits = 1 <= t <= 4 and t < d
+            out.append(f"{'strong' if strong else 'plain'} {t} " + (judge(s, d, wires, strong, t) if fits else "refused 12"))
+    if n <= 16:
+        for size in (1, 2):
+            for probed in combinations(range(n), size):
+                if size < d:
+                    counts, word = needed(s, d, wires, probed)
+                    steps = steps_of(wires, probed)[0]
+                    is_open = max(counts) > size
+                    out.append(f"set {' '.join(map(str, probed))}: {word}{' open' if is_open else ''};" + "".join(f" {w} {r}" for w, r in steps))
+                else:
+                    out.append(f"set {' '.join(map(str, probed))}: refused 12")
+        if d == 4:
+            triples = [p for p in combinations(range(n), 3) if max(needed(s, d, wires, p)[0]) == 3]
+            out += [f"three shares: {' '.join(map(str, p))}" for p in triples]
+    return "\n".join(out) + "\n"
+
+
+ADDITIONS = """\
+add 3: 0; 1: 3 0 0 0
+add 1: 0; 2: 1 3 0 0
+add 3: 13; 2: 1 3 0 0
+add 128: 13; 2: 1 3 0 0
+add 127: 0; 3: 1 3 127 0
+add 2: 0; 4: 1 2 3 127
+add 5: 13; 4: 1 2 3 127
+add 3: 0; 2: 3 5 9 11
+add 3: 13; 3: 5 5 9 11
+add 3: 13; 5: 1 2 4 6
+add 3: 13; 4: 1 2 4 6
+"""
+
+if __name__ == "__main__":
+    if sys.argv[1] == "stdin":
+        sys.stdout.buffer.write(b"".join(text(*r) + b"\0" for r in ROUTINES))
+    else:
+        sys.stdout.write("".join(shown(r) for r in ROUTINES) + ADDITIONS)
