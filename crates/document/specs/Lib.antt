@@ -7,6 +7,7 @@ pub mod Reading
 pub mod Writing
 pub mod Running
 pub mod ProbeSets
+pub mod Placing
 pub mod Padding
 pub mod Judgements
 pub mod Starts

@@ -1,5 +1,11 @@
-// The data of the document: wire records, probe sets, steps, answers and refusals.
-// What they mean is said in specs/, a file for a section of the document; nothing here computes.
+// The data of the document: wire records, probe sets, steps, answers and refusals; and how probe sets are built.
+// What they mean is said in specs/, a file for a section of the document.
+ghost use mathlib.Core.Path.{_≡_};
+ghost use Prim.Native.Nat.{_+_, _≤_, _<_};
+ghost use lib.ListN.{take, getD};
+ghost use Rattle.document.specs.Basics.{elem};
+ghost use Rattle.document.specs.ProbeSets.{ascending, emptySet, mayAdd, adding};
+ghost use Rattle.document.specs.Placing.{rank, placedAt, placesWith};
 
 // What makes a wire.
 pub enum Kind {
@@ -159,4 +165,132 @@ pub enum Verdict {
 pub struct Judged {
     pub verdict: Verdict,
     pub set: ProbeSet,
+}
+
+// Each held wire is above the one before it.
+fn is_ascending(places: [u8; 4], len: usize) -> bool
+    requires { ⌜ len ≤ 4 ⌝ }
+    ensures { λ r. ⌜ r ≡ ascending (take len places) ⌝ }
+{
+    let mut i = 0;
+    while i + 1 < len {
+        if places[i + 1] <= places[i] {
+            return false;
+        }
+        i += 1;
+    }
+    true
+}
+
+// The wire is held.
+fn holds(places: [u8; 4], len: usize, w: usize) -> bool
+    requires { ⌜ len ≤ 4 ⌝ }
+    ensures { λ r. ⌜ r ≡ elem w (take len places) ⌝ }
+{
+    let mut i = 0;
+    while i < len {
+        if w == places[i] as usize {
+            return true;
+        }
+        i += 1;
+    }
+    false
+}
+
+// How many held wires stand before the first that is above w.
+fn rank_of(places: [u8; 4], len: usize, w: usize) -> usize
+    requires { ⌜ len ≤ 4 ⌝ }
+    ensures { λ r. ⌜ r ≡ rank w (take len places) ⌝ }
+{
+    let mut i = 0;
+    while i < len {
+        if w < places[i] as usize {
+            return i;
+        }
+        i += 1;
+    }
+    i
+}
+
+// An addition is not refused.
+fn may_add(set: ProbeSet, w: usize) -> bool
+    ensures { λ r. ⌜ r ≡ mayAdd set w ⌝ }
+{
+    let places = set.places;
+    let len = set.len;
+    if 4 <= len {
+        return false;
+    }
+    if 127 < w {
+        return false;
+    }
+    if holds(places, len, w) {
+        return false;
+    }
+    is_ascending(places, len)
+}
+
+// What stands at place i once w is put in at place k: those from k to the end move up by one.
+fn placed_at(places: [u8; 4], len: usize, k: usize, w: u8, i: usize) -> u8
+    requires { ⌜ (len < 4) × (k ≤ len) × (i < 4) ⌝ }
+    ensures { λ r. ⌜ r ≡ placedAt places len k w i ⌝ }
+{
+    if i == k {
+        return w;
+    }
+    if i < k {
+        return places[i];
+    }
+    if i <= len {
+        return places[i - 1];
+    }
+    places[i]
+}
+
+// The places once w is put in at place k.
+fn places_with(places: [u8; 4], len: usize, k: usize, w: u8) -> [u8; 4]
+    requires { ⌜ (len < 4) × (k ≤ len) ⌝ }
+    ensures { λ r. ⌜ r ≡ placesWith places len k w ⌝ }
+{
+    let a = placed_at(places, len, k, w, 0);
+    let b = placed_at(places, len, k, w, 1);
+    let c = placed_at(places, len, k, w, 2);
+    let d = placed_at(places, len, k, w, 3);
+    [a, b, c, d]
+}
+
+impl ProbeSet {
+    // The set that a building starts with.
+    pub fn empty() -> ProbeSet
+        ensures { λ r. ⌜ r ≡ emptySet ⌝ }
+    {
+        ProbeSet {
+            places: [0u8; 4],
+            len: 0,
+        }
+    }
+
+    // The set with w put in at its place, or as it came.
+    pub fn add(self, w: usize) -> Added
+        ensures { λ r. ⌜ r ≡ adding self w ⌝ }
+    {
+        let places = self.places;
+        let len = self.len;
+        if !may_add(self, w) {
+            let set = ProbeSet { places, len };
+            return Added {
+                outcome: Outcome::Refused(Refusal::Probes),
+                set,
+            };
+        }
+        let k = rank_of(places, len, w);
+        let set = ProbeSet {
+            places: places_with(places, len, k, w as u8),
+            len: len + 1,
+        };
+        Added {
+            outcome: Outcome::Done,
+            set,
+        }
+    }
 }
