@@ -168,7 +168,7 @@ pub struct Judged {
 }
 
 // Each held wire is above the one before it.
-fn is_ascending(places: [u8; 4], len: usize) -> bool
+pub fn is_ascending(places: [u8; 4], len: usize) -> bool
     requires { ⌜ len ≤ 4 ⌝ }
     ensures { λ r. ⌜ r ≡ ascending (take len places) ⌝ }
 {

@@ -1,0 +1,26 @@
+-- `rule::needed_word` meets its contract. The run's leaves are the last.
+use mathlib.Core.Path.{ap, _∙_}
+use Prim.Native.Nat.{_*_}
+use borrow.Author.Needs.{needs}
+use Rattle.document.specs.Padding.{word, live}
+use Rattle.document.specs.Basics.{at}
+use Rattle.rule.specs.Run.{needed-same}
+use Rattle.rule.specs.Passes.{wired}
+use Rattle.rule.specs.declared.Run.{Run}
+use Rattle.rule.proofs.needed_word.Statement.{statement}
+use Rattle.rule.proofs.needed_word.Tie as tie
+
+run-to-end-requires : tie.Need-run-to-end-requires
+run-to-end-requires c κs = search needs
+
+live-shares-requires : tie.Need-live-shares-requires
+live-shares-requires c κs = search needs
+
+returns : tie.Need-returns
+returns c = let s = c .before .before .before in
+    c .live-shares .ensures
+    ∙ ap (λ (r : Run). word (s .args .s * s .args .d) (at (live (wired (s .args .n) (s .args .ws)) (s .args .probe) (r .leaf)))) (c .before .before .run-to-end .ensures)
+    ∙ needed-same (s .args .s) (s .args .d) (s .args .n) (s .args .ws) (s .args .probe)
+
+pub needed-word-spec : {M : Type 1} → statement M
+needed-word-spec = tie.close (tie.spec run-to-end-requires live-shares-requires returns)
