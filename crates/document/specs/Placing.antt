@@ -1,5 +1,5 @@
 -- Where an addition puts a wire, place by place, and that this is the document's addition.
-use mathlib.Core.Path.{_≡_, refl, sym, ap, ap₂, _∙_}
+use mathlib.Core.Path.{_≡_, refl, sym, ap, _∙_}
 use mathlib.Core.Bool.{Bool, true, false, not, _&&_, _||_, cond}
 use mathlib.Core.List.{List, [], _∷_, _++_}
 use Prim.Native.Nat.{ℕ, zero, suc, _+_, _-_, _≤_, _<_, zero-le}
@@ -38,47 +38,47 @@ short-ascends (p ∷ []) h = refl
 short-ascends (p ∷ q ∷ ps) h = absurd (omega arith)
 
 module _ (P : List ℕ) (len : ℕ) (fits : len ≤ length P) where
-  next : (i : ℕ) → i < len → drop i (take len P) ≡ getD P i 0 ∷ drop (i + 1) (take len P)
-  next i l =
+  pub held-next : (i : ℕ) → i < len → drop i (take len P) ≡ getD P i 0 ∷ drop (i + 1) (take len P)
+  held-next i l =
       let n = length-take-le len P fits in
       rw add-one (drop-cons (take len P) i 0 (omega arith) ∙ ap (λ (x : ℕ). x ∷ drop (suc i) (take len P)) (getD-take len P i 0 l))
 
-  ends : (i : ℕ) → len ≤ i → drop i (take len P) ≡ []
-  ends i l = let n = length-take-le len P fits in drop-of-length-le (take len P) {i = i} (omega arith)
+  pub held-ends : (i : ℕ) → len ≤ i → drop i (take len P) ≡ []
+  held-ends i l = let n = length-take-le len P fits in drop-of-length-le (take len P) {i = i} (omega arith)
 
   pub elem-here : (w i : ℕ) → i < len → w ≡ getD P i 0 → elem w (drop i (take len P)) ≡ true
   unfolding elem
-  elem-here w i l e = rw (next i l) (or-l (eqb w (getD P i 0)) _ (true-eqb w (getD P i 0) e))
+  elem-here w i l e = rw (held-next i l) (or-l (eqb w (getD P i 0)) _ (true-eqb w (getD P i 0) e))
 
   pub elem-later : (w i : ℕ) → i < len → (w ≡ getD P i 0 → ⊥) → elem w (drop i (take len P)) ≡ elem w (drop (i + 1) (take len P))
   unfolding elem
-  elem-later w i l n = rw (next i l) (ap (λ (b : Bool). b || elem w (drop (i + 1) (take len P))) (ne-eqb w (getD P i 0) n))
+  elem-later w i l n = rw (held-next i l) (ap (λ (b : Bool). b || elem w (drop (i + 1) (take len P))) (ne-eqb w (getD P i 0) n))
 
   pub elem-none : (w i : ℕ) → len ≤ i → elem w (drop i (take len P)) ≡ false
   unfolding elem
-  elem-none w i l = ap (elem w) (ends i l)
+  elem-none w i l = ap (elem w) (held-ends i l)
 
   pub rank-here : (w i : ℕ) → i < len → w < getD P i 0 → rank w (drop i (take len P)) ≡ 0
   unfolding rank
-  rank-here w i l h = ap (rank w) (next i l) ∙ cond-true _ _ (true-ltb w (getD P i 0) h)
+  rank-here w i l h = ap (rank w) (held-next i l) ∙ cond-true _ _ (true-ltb w (getD P i 0) h)
 
   pub rank-later : (w i : ℕ) → i < len → getD P i 0 ≤ w → rank w (drop i (take len P)) ≡ suc (rank w (drop (i + 1) (take len P)))
   unfolding rank
-  rank-later w i l h = ap (rank w) (next i l) ∙ cond-false _ _ (le-ltb w (getD P i 0) h)
+  rank-later w i l h = ap (rank w) (held-next i l) ∙ cond-false _ _ (le-ltb w (getD P i 0) h)
 
   pub rank-none : (w i : ℕ) → len ≤ i → rank w (drop i (take len P)) ≡ 0
   unfolding rank
-  rank-none w i l = ap (rank w) (ends i l)
+  rank-none w i l = ap (rank w) (held-ends i l)
 
   both : (i : ℕ) → i + 1 < len → drop i (take len P) ≡ getD P i 0 ∷ getD P (i + 1) 0 ∷ drop (i + 1 + 1) (take len P)
-  both i l = next i (omega arith) ∙ ap (λ (xs : List ℕ). getD P i 0 ∷ xs) (next (i + 1) l)
+  both i l = held-next i (omega arith) ∙ ap (λ (xs : List ℕ). getD P i 0 ∷ xs) (held-next (i + 1) l)
 
   pub ascends-on : (i : ℕ) → i + 1 < len → getD P i 0 < getD P (i + 1) 0 → ascending (drop i (take len P)) ≡ ascending (drop (i + 1) (take len P))
   unfolding ascending
   ascends-on i l h =
       ap ascending (both i l)
       ∙ ap (λ (b : Bool). b && ascending (getD P (i + 1) 0 ∷ drop (i + 1 + 1) (take len P))) (true-ltb (getD P i 0) (getD P (i + 1) 0) h)
-      ∙ ap ascending (sym (next (i + 1) l))
+      ∙ ap ascending (sym (held-next (i + 1) l))
 
   pub ascends-not : (i : ℕ) → i + 1 < len → getD P (i + 1) 0 ≤ getD P i 0 → ascending (drop i (take len P)) ≡ false
   unfolding ascending

@@ -1,23 +1,23 @@
 -- The two calls on one set: their refusals in the stated order, what a passed test gives, and their answers.
 use mathlib.Core.Path.{_≡_, refl, sym, ap, ap₂, _∙_}
 use mathlib.Core.Bool.{Bool, true, false, _&&_, cond}
-use mathlib.Core.Logic.{_⊎_, inl, inr}
+use mathlib.Core.Logic.{inl, inr}
 use mathlib.Core.List.{List, [], _∷_, _++_}
-use Prim.Native.Nat.{ℕ, zero, suc, _+_, _-_, _*_, _≤_, _<_}
+use Prim.Native.Nat.{ℕ, zero, suc, _+_, _-_, _≤_, _<_}
 use native.Mathlib.Omega.{arith}
-use native.Mathlib.Numerals.{add-one}
 use borrow.Author.Tests.{le-ltb, lt-leb}
 use lib.Dec.{ltb, leb}
-use lib.ListN.{length, getD, take, drop, replicate, length-replicate, drop-of-length-le}
-use lib.Seq.{sets, sets-eq, drop-cons, getD-take, length-take-le, take-append-add}
+use lib.ListN.{length, getD, take, drop, replicate, length-replicate}
+use lib.Seq.{sets, sets-eq, getD-take, length-take-le, take-append-add}
 use Rattle.document.specs.Basics.{each}
-use Rattle.document.specs.Routine.{Routine, size, routineOf, wellFormed, recordsFit}
+use Rattle.document.specs.Routine.{Routine, routineOf, wellFormed, recordsFit}
 use Rattle.document.specs.ProbeSets.{held, ascending}
+use Rattle.document.specs.Placing.{held-next, held-ends}
 use Rattle.document.specs.Padding.{probed, steps, neededShares, bitsOf, neededOf}
 use Rattle.document.specs.Judgements.{plain, isOpen, orderFits, probesFit, setRefusal, neededNot, needing, noStep, paddedNot, stepList, padding}
 use Rattle.document.specs.Lent.{lent, lentNeeding, lentPadding}
-use Rattle.document.specs.Laws.Tests.{clash, and-l, and-r, and-i, and-false, cond-true, cond-false, ltb-true, true-ltb, leb-true, true-leb, Mem, each-at}
-use Rattle.document.specs.Laws.Sound.{Sound, sound}
+use Rattle.document.specs.Laws.Tests.{clash, and-l, and-r, cond-true, cond-false, ltb-true, true-ltb, leb-true, true-leb, Mem, each-at}
+use Rattle.document.specs.Laws.Sound.{sound}
 use Rattle.document.specs.Laws.Orders.{step-count}
 use Rattle.document.specs.declared.Refusal.{Refusal}
 use Rattle.document.specs.declared.Refusal.the-variants as No
@@ -27,9 +27,9 @@ use Rattle.document.specs.declared.ProbeSet.{ProbeSet}
 use Rattle.document.specs.declared.Step.{Step}
 use Rattle.document.specs.declared.Needed.{Needed}
 use Rattle.document.specs.declared.Padded.{Padded}
-use Rattle.records.specs.Fit.{Fit, fit-of, a-within, b-within}
+use Rattle.records.specs.Fit.{fit-of, a-within, b-within}
 use Rattle.rule.specs.declared.Run.{Run}
-use Rattle.rule.specs.Passes.{Low, Wired, LowProbes}
+use Rattle.rule.specs.Passes.{Wired, LowProbes}
 use Rattle.rule.specs.Run.{runOf, neededBy, needed-is, steps-are, len-is}
 use Rattle.rule.specs.Words.{Shares, onesOf, someOver}
 
@@ -66,22 +66,17 @@ module _ (n t : ℕ) (set : ProbeSet) where
 
 -- the held wires from place i on are wires
 module _ (P : List ℕ) (len n : ℕ) (fits : len ≤ length P) where
-  next : (i : ℕ) → i < len → drop i (take len P) ≡ getD P i 0 ∷ drop (i + 1) (take len P)
-  next i l =
-      let k = length-take-le len P fits in
-      rw add-one (drop-cons (take len P) i 0 (omega arith) ∙ ap (λ (x : ℕ). x ∷ drop (suc i) (take len P)) (getD-take len P i 0 l))
-
   pub named-on : (i : ℕ) → i < len → getD P i 0 < n → each (λ w. ltb w n) (drop i (take len P)) ≡ each (λ w. ltb w n) (drop (i + 1) (take len P))
   unfolding each
-  named-on i l h = ap (each (λ w. ltb w n)) (next i l) ∙ ap (λ (b : Bool). b && each (λ w. ltb w n) (drop (i + 1) (take len P))) (true-ltb (getD P i 0) n h)
+  named-on i l h = ap (each (λ w. ltb w n)) (held-next P len fits i l) ∙ ap (λ (b : Bool). b && each (λ w. ltb w n) (drop (i + 1) (take len P))) (true-ltb (getD P i 0) n h)
 
   pub named-not : (i : ℕ) → i < len → n ≤ getD P i 0 → each (λ w. ltb w n) (drop i (take len P)) ≡ false
   unfolding each
-  named-not i l h = ap (each (λ w. ltb w n)) (next i l) ∙ ap (λ (b : Bool). b && each (λ w. ltb w n) (drop (i + 1) (take len P))) (le-ltb (getD P i 0) n h)
+  named-not i l h = ap (each (λ w. ltb w n)) (held-next P len fits i l) ∙ ap (λ (b : Bool). b && each (λ w. ltb w n) (drop (i + 1) (take len P))) (le-ltb (getD P i 0) n h)
 
   pub named-end : (i : ℕ) → len ≤ i → each (λ w. ltb w n) (drop i (take len P)) ≡ true
   unfolding each
-  named-end i l = let k = length-take-le len P fits in ap (each (λ w. ltb w n)) (drop-of-length-le (take len P) {i = i} (omega arith))
+  named-end i l = ap (each (λ w. ltb w n)) (held-ends P len fits i l)
 
 -- ---- what passed tests give
 

@@ -1,7 +1,7 @@
 -- How many live consumers that are no leaves each wire has, and what that says of the only one.
-use mathlib.Core.Path.{_≡_, refl, sym, ap, ap₂, _∙_, subst}
+use mathlib.Core.Path.{_≡_, refl, sym, ap, ap₂, _∙_}
 use mathlib.Core.Bool.{Bool, true, false, not, _&&_, _||_, cond}
-use mathlib.Core.Logic.{_⊎_, inl, inr, _≢_}
+use mathlib.Core.Logic.{_≢_}
 use mathlib.Core.List.{List, [], _∷_}
 use Prim.Native.Nat.{ℕ, zero, suc, _+_, _-_, _≤_, _<_}
 use native.Mathlib.Nat.{not-suc-le-zero}
@@ -11,9 +11,8 @@ use lib.Dec.{eqb}
 use lib.ListN.{length, getD, set, length-set, replicate, length-replicate, getD-replicate}
 use lib.Seq.{getD-set-same, getD-set-other}
 use Rattle.document.specs.Basics.{one, tally, all, elem, Marks, at}
-use Rattle.document.specs.Routine.{wire}
-use Rattle.document.specs.Padding.{operandsOf, operands, consumes, onlyConsumer}
-use Rattle.document.specs.Laws.Tests.{clash, out-of, bool-cases, cond-cases, and-i, and-false, or-cases, or-l, or-r, not-t, eqb-true, true-eqb, wire-cases, all-at, all-of, tally-ext, tally-more, tally-max}
+use Rattle.document.specs.Padding.{operandsOf, operands, consumes}
+use Rattle.document.specs.Laws.Tests.{clash, out-of, bool-cases, cond-cases, or-cases, or-l, or-r, not-t, eqb-true, true-eqb, wire-cases, all-at, all-of, tally-ext, tally-more, tally-max}
 use Rattle.document.specs.declared.Kind.{Kind}
 use Rattle.document.specs.declared.Kind.the-variants.{Share, Rand, Pub, Xor, And, Not}
 use Rattle.document.specs.declared.Wire.{Wire}

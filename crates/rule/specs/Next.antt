@@ -1,20 +1,19 @@
 -- The next step found by the counts of consumers is the rule's.
 use mathlib.Core.Path.{_≡_, refl, sym, ap, ap₂, _∙_, subst}
 use mathlib.Core.Bool.{Bool, true, false, not, _&&_, _||_, cond}
-use mathlib.Core.Logic.{_⊎_, inl, inr, _≢_}
+use mathlib.Core.Logic.{inl, inr}
 use mathlib.Core.List.{List, [], _∷_}
 use mathlib.Core.Option.{Option, none, some}
-use Prim.Native.Nat.{ℕ, zero, suc, _+_, _-_, _≤_, _<_, zero-le, min, max}
+use Prim.Native.Nat.{ℕ, suc, _+_, _-_, _≤_, _<_, zero-le, min, max}
 use native.Mathlib.Numerals.{add-one}
 use native.Mathlib.Omega.{arith}
 use borrow.Author.Tests.{eq-eqb, ne-eqb}
 use lib.Dec.{eqb}
-use lib.ListN.{length, getD, take}
+use lib.ListN.{length, getD}
 use lib.Seq.{length-take-le}
-use Rattle.document.specs.Basics.{tally, all, elem, Marks, at}
-use Rattle.document.specs.Routine.{size, wire}
+use Rattle.document.specs.Basics.{all, elem, Marks, at}
 use Rattle.document.specs.Padding.{operandsOf, operands, live, padsOf, pads, consumes, onlyConsumer, serves, padsBy, firstPad, lowestPad, nextStep}
-use Rattle.document.specs.Laws.Tests.{clash, and-i, Mem, elem→, elem←}
+use Rattle.document.specs.Laws.Tests.{clash, and-i, Mem, elem←}
 use Rattle.document.specs.Laws.Live.{pad-op-of}
 use Rattle.document.specs.declared.Kind.{Kind}
 use Rattle.document.specs.declared.Kind.the-variants.{Share, Rand, Pub, Xor, And, Not}
@@ -24,7 +23,7 @@ use Rattle.records.specs.Records.{recordAt}
 use Rattle.records.specs.Laws.{wire-is}
 use Rattle.rule.specs.declared.Next.{Next}
 use Rattle.rule.specs.declared.Next.the-variants.{End, Pad}
-use Rattle.rule.specs.Passes.{wired, Low, Wired}
+use Rattle.rule.specs.Passes.{wired, Wired}
 use Rattle.rule.specs.Consumers.{Consumers, counts-all, only-counted}
 
 -- the step that a search found, or none

@@ -1,16 +1,16 @@
 -- What the passes over the wires rest on: the wires alone, and operands that are marks' places.
 use mathlib.Core.Path.{_≡_, refl, sym, ap, _∙_}
 use mathlib.Core.Bool.{Bool, true, false, not, _&&_, cond}
-use mathlib.Core.List.{List, [], _∷_}
+use mathlib.Core.List.{List, _∷_}
 use Prim.Native.Nat.{ℕ, zero, suc, _+_, _-_, _≤_, _<_}
 use native.Mathlib.Numerals.{add-one}
 use native.Mathlib.Omega.{arith}
-use lib.ListN.{length, getD, take, drop, set, drop-of-length-le}
-use lib.Seq.{drop-cons, getD-take, length-take-le}
+use lib.ListN.{length, getD, take, drop, set}
+use lib.Seq.{length-take-le}
 use Rattle.document.specs.Basics.{Marks, at, mark}
-use Rattle.document.specs.Routine.{Routine, size, wire, isRand, routineOf}
-use Rattle.document.specs.ProbeSets.{held}
-use Rattle.document.specs.Padding.{unmarked, probed, operandsOf, operands, randsFrom, firstLeaves, liveDown, live}
+use Rattle.document.specs.Routine.{Routine, isRand, routineOf}
+use Rattle.document.specs.Placing.{held-next, held-ends}
+use Rattle.document.specs.Padding.{unmarked, operandsOf, operands, randsFrom, firstLeaves, liveDown, live}
 use Rattle.document.specs.declared.Wire.{Wire}
 use Rattle.document.specs.declared.ProbeSet.{ProbeSet}
 use Rattle.records.specs.Records.{recordAt}
@@ -65,13 +65,11 @@ module _ (n : ℕ) (ws : List Wire) where
 module _ (P : List ℕ) (len : ℕ) (fits : len ≤ length P) where
   pub probed-turn : (i : ℕ) (m : Marks) → i < len → mark (drop i (take len P)) m ≡ mark (drop (i + 1) (take len P)) (set m (getD P i 0) true)
   unfolding mark
-  probed-turn i m h =
-      let k = length-take-le len P fits in
-      rw (add-one i) (ap (λ (ps : List ℕ). mark ps m) (drop-cons (take len P) i 0 (omega arith) ∙ ap (λ (p : ℕ). p ∷ drop (suc i) (take len P)) (getD-take len P i 0 h)))
+  probed-turn i m h = ap (λ (ps : List ℕ). mark ps m) (held-next P len fits i h)
 
   pub probed-end : (i : ℕ) (m : Marks) → len ≤ i → mark (drop i (take len P)) m ≡ m
   unfolding mark
-  probed-end i m h = let k = length-take-le len P fits in ap (λ (ps : List ℕ). mark ps m) (drop-of-length-le (take len P) {i = i} (omega arith))
+  probed-end i m h = ap (λ (ps : List ℕ). mark ps m) (held-ends P len fits i h)
 
 -- ---- the live wires, from wire u down
 
