@@ -10,7 +10,7 @@ use lib.Arith.{bin-ind}
 use lib.Bits.{bitAnd, bitOr, bitXor, and-shr, or-shr, xor-shr, and-mod, or-mod, xor-mod, shifted-even}
 use lib.Count.{ones}
 use lib.Dec.{eqb, lit<}
-use lib.Pow.{pow-pos, pow-lt, pow-add, shl-shr, shr-shr, mod-pow-add}
+use lib.Pow.{pow-pos, pow-lt, pow-add, shl-exact, shl-shr, shr-shr, mod-pow-add}
 use Rattle.document.specs.Basics.{one, tally}
 use Rattle.document.specs.Padding.{word}
 use Rattle.document.specs.Laws.Tests.{clash, out-of, eqb-true, true-eqb, wire-cases}
@@ -132,3 +132,7 @@ word-has (suc m) x = ap₂ (λ (a b : ℕ). a * 2 ^ m + b) (bit-is x m) (word-ha
 -- the ones of the d bits from k on, of a word below 2 ^ m
 pub ones-has : (k d m x : ℕ) → x < 2 ^ (k + d + m) → ones (x / 2 ^ k % 2 ^ d) ≡ tally d (λ j. has x (k + j))
 ones-has k d m x h = ap (λ (z : ℕ). ones (z / 2 ^ k % 2 ^ d)) (sym (word-has (k + d + m) x ∙ mod-eq-of-lt h)) ∙ ones-part k d m (has x)
+
+-- the word with bit k alone, as the code shifts it
+pub one-shifted : (k : ℕ) → k < 64 → (1 * 2 ^ k) % 2 ^ 64 ≡ 2 ^ k
+one-shifted k h = shl-exact {a = 1} 1 k 64 (lit< tt) (omega arith) ∙ one-mul (2 ^ k)

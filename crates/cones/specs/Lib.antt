@@ -5,3 +5,4 @@ pub mod Bits
 pub mod Tables
 pub mod Seen
 pub mod Spared
+pub mod Making

@@ -71,7 +71,7 @@ shareCones R k = made (coneAt R (shareBit R)) k
 unfoldable pub randCones : Routine → ℕ → List ℕ
 randCones R k = made (coneAt R (randBit R)) k
 
-gather-ext : (e e′ : ℕ → ℕ) (vs : List ℕ) → ((v : ℕ) → Mem v vs → e v ≡ e′ v) → gather e vs ≡ gather e′ vs
+pub gather-ext : (e e′ : ℕ → ℕ) (vs : List ℕ) → ((v : ℕ) → Mem v vs → e v ≡ e′ v) → gather e vs ≡ gather e′ vs
 unfolding gather
 gather-ext e e′ [] h = refl
 gather-ext e e′ (v ∷ vs) h = ap₂ bitOr (h v (inl refl)) (gather-ext e e′ vs (λ u m. h u (inr m)))

@@ -1,0 +1,180 @@
+-- The sizes of sets one after the other: where none of a size is open, the next size is searched; and the answer of the whole.
+use mathlib.Core.Path.{_≡_, refl, sym, ap, _∙_, subst}
+use mathlib.Core.Bool.{Bool, true, false, _&&_, cond}
+use mathlib.Core.Logic.{inl, inr}
+use mathlib.Core.List.{List, [], _∷_}
+use Prim.Native.Nat.{ℕ, zero, suc, _+_, _-_, _*_, _^_, _≤_, _<_}
+use native.Mathlib.Nat.{pow-le-pow-left, pow-le-pow-right}
+use native.Mathlib.Decide.{le-ind}
+use native.Mathlib.Omega.{arith}
+use lib.Dec.{leb, ltb}
+use lib.ListN.{length, length-append}
+use Rattle.document.specs.Routine.{Routine, size, wellFormed, routineOf, recordsFit}
+use Rattle.document.specs.ProbeSets.{setOf}
+use Rattle.document.specs.Judgements.{plain, strong, isOpen, setsOf, setsInOrder, setsJudged, judgement, orderFits, judgedNot, judged}
+use Rattle.document.specs.Lent.{lent, lentJudged}
+use Rattle.document.specs.Laws.Tests.{clash, bool-cases, and-l, and-r, leb-true}
+use Rattle.document.specs.Laws.Needed.{Asc}
+use Rattle.document.specs.Laws.Sets.{Among, sets←}
+use Rattle.document.specs.Laws.Judging.{NoneOpen}
+use Rattle.document.specs.declared.Refusal.the-variants as No
+use Rattle.document.specs.declared.Judged.{Judged}
+use Rattle.document.specs.declared.Wire.{Wire}
+use Rattle.records.specs.Fit.{fit-of}
+use Rattle.cones.specs.Making.{TablesOf}
+use Rattle.cones.specs.Seen.{seeAll, nothing}
+use Rattle.judge.specs.declared.Which.{Which}
+use Rattle.judge.specs.declared.Which.the-variants.{Plain, Strong}
+use Rattle.judge.specs.declared.Found.{Found}
+use Rattle.judge.specs.Search.{none, found, search, answerOf, answer-is, onFrom, search-append, grow, grow-sets, sets-few}
+use Rattle.judge.specs.Growing.{judgementOf, nothingGrown, ClosedBelow, Searching}
+
+-- ---- how many sets there are
+
+sets-below : (k n : ℕ) → k ≤ 4 → n ≤ 128 → length (setsOf k n 0) ≤ 128 ^ 4
+sets-below k n h l = let a = sets-few k n 0 in let b : n ^ k ≤ 128 ^ k = pow-le-pow-left l k in let c : 128 ^ k ≤ 128 ^ 4 = pow-le-pow-right (omega arith) h in omega arith
+
+in-order-below : (k n : ℕ) → k ≤ 4 → n ≤ 128 → length (setsInOrder k n) ≤ k * 128 ^ 4
+unfolding setsInOrder
+in-order-below zero n h l = omega arith
+in-order-below (suc k) n h l =
+    let a = in-order-below k n (omega arith) l in
+    let b = sets-below (suc k) n h l in
+    let c = length-append (setsInOrder k n) (setsOf (suc k) n 0) in
+    omega arith
+
+-- ---- from a size to the next
+
+module _ (opens : List ℕ → Bool) where
+  search-closed : (k : ℕ) (ss : List (List ℕ)) → search opens k ss .hit ≡ false → NoneOpen opens ss
+  unfolding search
+  search-closed k [] e ps m = absurd m
+  search-closed k (s ∷ ss) e ps m = go (opens s) refl e (λ f. search-closed (suc k) ss f ps) m
+    where
+      go : (b : Bool) → opens s ≡ b → cond b (found (suc k) s) (search opens (suc k) ss) .hit ≡ false → (search opens (suc k) ss .hit ≡ false → Among ps ss → opens ps ≡ false) → Among ps (s ∷ ss) → opens ps ≡ false
+      go true q f rest m = clash refl f
+      go false q f rest (inl i) = ap opens i ∙ q
+      go false q f rest (inr m) = rest f m
+
+  search-all : (k : ℕ) (ss : List (List ℕ)) → search opens k ss .hit ≡ false → search opens k ss .count ≡ k + length ss
+  unfolding search
+  search-all k [] e = omega arith
+  search-all k (s ∷ ss) e = go (opens s) e (search-all (suc k) ss)
+    where
+      go : (b : Bool) → cond b (found (suc k) s) (search opens (suc k) ss) .hit ≡ false → (search opens (suc k) ss .hit ≡ false → search opens (suc k) ss .count ≡ suc k + length ss)
+          → cond b (found (suc k) s) (search opens (suc k) ss) .count ≡ k + length (s ∷ ss)
+      go true f rest = clash refl f
+      go false f rest = let z = rest f in omega arith
+
+  -- what is found among the sets of 1 to k of n wires
+  unfoldable pub foundUpTo : ℕ → ℕ → Found
+  foundUpTo k n = search opens 0 (setsInOrder k n)
+
+  pub found-none : (n : ℕ) → none 0 ≡ foundUpTo 0 n
+  unfolding foundUpTo setsInOrder search
+  found-none n = refl
+
+  up-suc : (k n : ℕ) → foundUpTo (suc k) n ≡ onFrom (foundUpTo k n) (λ j. search opens j (setsOf (suc k) n 0))
+  unfolding foundUpTo setsInOrder
+  up-suc k n = search-append opens 0 (setsInOrder k n) (setsOf (suc k) n 0)
+
+  -- a size more, where nothing was found
+  pub found-more : (k n : ℕ) (x y : Found) → x ≡ foundUpTo k n → x .hit ≡ false → y ≡ grow opens (k + 1) (n - 0) 0 [] (x .count) → y ≡ foundUpTo (k + 1) n
+  unfolding onFrom
+  found-more k n x y e f q =
+      let z : n - 0 ≡ n = omega arith in
+      let p : suc k ≡ k + 1 = omega arith in
+      q ∙ ap (λ (m : ℕ). grow opens (k + 1) m 0 [] (x .count)) z ∙ grow-sets opens (k + 1) n (x .count) ∙ ap (λ (j : ℕ). search opens (x .count) (setsOf j n 0)) (sym p)
+      ∙ sym (ap (λ (b : Bool). cond b x (search opens (x .count) (setsOf (suc k) n 0))) f)
+      ∙ ap (λ (w : Found). onFrom w (λ j. search opens j (setsOf (suc k) n 0))) e ∙ sym (up-suc k n) ∙ ap (λ (j : ℕ). foundUpTo j n) p
+
+  -- what is found stays found
+  pub found-stays : (k n m : ℕ) (x : Found) → k ≤ m → x ≡ foundUpTo k n → x .hit ≡ true → x ≡ foundUpTo m n
+  unfolding onFrom
+  found-stays k n m x h e t = le-ind (λ (j : ℕ). x ≡ foundUpTo j n) e
+      (λ j l i. sym (ap (λ (b : Bool). cond b x (search opens (x .count) (setsOf (suc j) n 0))) t)
+      ∙ ap (λ (w : Found). onFrom w (λ i. search opens i (setsOf (suc j) n 0))) i ∙ sym (up-suc j n)) m h
+
+  pub found-few : (k n : ℕ) (x : Found) → x ≡ foundUpTo k n → x .hit ≡ false → k < 4 → n ≤ 128 → x .count + length (setsOf (k + 1) (n - 0) 0) < 2 ^ 63
+  unfolding foundUpTo
+  found-few k n x e f h l =
+      let z : n - 0 ≡ n = omega arith in
+      let a = search-all 0 (setsInOrder k n) (sym (ap (λ (w : Found). w .hit) e) ∙ f) in
+      let b = in-order-below k n (omega arith) l in
+      let c = ap (λ (m : ℕ). length (setsOf (k + 1) m 0)) z in
+      let q = sets-below (k + 1) n (omega arith) l in
+      let r = ap (λ (w : Found). w .count) e in
+      omega arith
+
+-- ---- a search of one size
+
+module _ (which : Which) (s d n : ℕ) (ws : List Wire) (t : ℕ) where
+  abbrev R : Routine
+  R = routineOf s d n ws
+
+  abbrev opens : List ℕ → Bool
+  opens = isOpen (judgementOf which) R t
+
+  -- where no set of 1 to k wires is open, no set of fewer than k + 1 is
+  closed-below : (k : ℕ) → size R ≡ n → foundUpTo opens k n .hit ≡ false → ClosedBelow (judgementOf which) R t (k + 1)
+  unfolding foundUpTo
+  closed-below k e f qs a p l = search-closed opens 0 (setsInOrder k n) f qs (sets← k n qs (subst (λ (m : ℕ). Asc 0 m qs) e a) p (omega arith))
+
+  pub size-asked : recordsFit s d n ws ≡ true → (shares rands own : List ℕ) → TablesOf s d n ws shares rands own → (k : ℕ) → k < 4 → (x : Found) → x ≡ foundUpTo opens k n → x .hit ≡ false
+      → Searching which s d n ws t shares rands own (k + 1) 0 nothingGrown (x .count)
+  unfolding setOf seeAll
+  size-asked fit shares rands own tables k h x e f =
+      let fi = fit-of s d n ws fit in
+      record {
+        fits = fit;
+        tables = tables;
+        below = omega arith;
+        room = omega arith;
+        grows = record { whole = refl; few = omega arith; ascends = tt; seen = refl };
+        smaller = λ qs a p l. closed-below k (fi .sized) (sym (ap (λ (w : Found). w .hit) e) ∙ f) qs a p (omega arith);
+        counted = found-few opens k n x e f h (fi .few);
+      }
+
+  -- ---- the answer
+
+  pub not-records : recordsFit s d n ws ≡ false → judgedNot No.Records ≡ lentJudged (judgementOf which) s d n ws t
+  unfolding lentJudged lent judged recordsFit
+  not-records e = bool-cases (leb n (length ws))
+      (λ p. let w : wellFormed R ≡ false = rw p at e in simp (p, w))
+      (λ p. simp p)
+
+  fit-parts : recordsFit s d n ws ≡ true → (leb n (length ws) ≡ true) × (wellFormed R ≡ true)
+  unfolding recordsFit
+  fit-parts e = (and-l (leb n (length ws)) (wellFormed R) e, and-r (leb n (length ws)) (wellFormed R) e)
+
+  pub not-order : recordsFit s d n ws ≡ true → (leb 1 t && leb t 4 && ltb t d) ≡ false → judgedNot No.Order ≡ lentJudged (judgementOf which) s d n ws t
+  unfolding lentJudged lent judged orderFits
+  not-order e o = let p = fit-parts e in simp (p .0, p .1, o)
+
+  pub judged-answer : recordsFit s d n ws ≡ true → (leb 1 t && leb t 4 && ltb t d) ≡ true → (x : Found) → x ≡ foundUpTo opens (judgementOf which .largest t) n → (r : Judged) → r ≡ answerOf x
+      → r ≡ lentJudged (judgementOf which) s d n ws t
+  unfolding lentJudged lent judged orderFits judgement setsJudged foundUpTo
+  judged-answer e o x q r a =
+      let p = fit-parts e in
+      let z = fit-of s d n ws e .sized in
+      a ∙ ap answerOf (q ∙ ap (λ (m : ℕ). search opens 0 (setsInOrder (judgementOf which .largest t) m)) (sym z))
+      ∙ answer-is opens 0 (setsInOrder (judgementOf which .largest t) (size R)) ∙ simp (p .0, p .1, o)
+
+-- 12 passed
+pub order-low : (t d : ℕ) → (leb 1 t && leb t 4 && ltb t d) ≡ true → (1 ≤ t) × (t ≤ 4)
+order-low t d e =
+    let p = and-l (leb 1 t && leb t 4) (ltb t d) e in
+    (leb-true 1 t (and-l (leb 1 t) (leb t 4) p), leb-true t 4 (and-r (leb 1 t) (leb t 4) p))
+
+-- the sizes judged are at most four
+pub largest-few : (which : Which) (t : ℕ) → t ≤ 4 → judgementOf which .largest t ≤ 4
+largest-few Plain t h = h
+largest-few Strong t h = omega arith
+
+-- ---- "that two answers allowed by it are equal"
+
+pub one-plain : (s d n t : ℕ) (ws : List Wire) (r q : Judged) → r ≡ lentJudged plain s d n ws t → q ≡ lentJudged plain s d n ws t → r ≡ q
+one-plain s d n t ws r q e f = e ∙ sym f
+
+pub one-strong : (s d n t : ℕ) (ws : List Wire) (r q : Judged) → r ≡ lentJudged strong s d n ws t → q ≡ lentJudged strong s d n ws t → r ≡ q
+one-strong s d n t ws r q e f = e ∙ sym f
