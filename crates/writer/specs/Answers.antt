@@ -17,7 +17,7 @@ use Rattle.records.specs.Fit.{long-of, fit-of}
 use Rattle.document.specs.Lent.{lent, lentWritten, lentWrittenInto}
 use Rattle.writer.specs.Write.{refused, Answered}
 use Rattle.writer.specs.Parts.{textParts, text-is}
-use Rattle.writer.specs.Put.{Put, wrote-first}
+use Rattle.buffer.specs.Put.{Put, wrote-first}
 
 module _ (s d n : ℕ) (ws : List Wire) (b : List ℕ) where
   pub not-records : recordsFit s d n ws ≡ false → Answered s d n ws b (refused Records) b

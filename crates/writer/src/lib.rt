@@ -11,7 +11,7 @@ ghost use lib.ListN.{length};
 ghost use Rattle.document.specs.Lines.{decimal};
 ghost use Rattle.records.specs.Fit.{Fit};
 ghost use Rattle.writer.specs.Write.{Answered, refused};
-ghost use Rattle.writer.specs.Put.{Put};
+ghost use Rattle.buffer.specs.Put.{Put};
 ghost use Rattle.writer.specs.Parts.{line1, line2, line3, ofKind, ofMark, piece, section, textParts};
 
 // The two groups of lines behind the first: those that make wires, and the `out` lines.
@@ -20,29 +20,7 @@ pub enum Part {
     Outputs,
 }
 
-// ---- bytes
-
-fn put_byte(buf: &mut [u8], at: usize, b: u8) -> usize
-    requires { ⌜ at < length (now buf) ⌝ }
-    ensures { λ r. ⌜ Put (now (buf .entry)) at (b ∷ []) r (now (buf .exit)) ⌝ }
-{
-    buf[at] = b;
-    at + 1
-}
-
-fn put_word(buf: &mut [u8], at: usize, word: &[u8]) -> usize
-    requires { ⌜ at + length (now word) ≤ length (now buf) ⌝ }
-    ensures { λ r. ⌜ Put (now (buf .entry)) at (now (word .entry)) r (now (buf .exit)) ⌝ }
-{
-    let mut j = 0;
-    let mut o = at;
-    while j < word.len() {
-        buf[o] = word[j];
-        o += 1;
-        j += 1;
-    }
-    o
-}
+// ---- numbers
 
 // A number as it is written: no leading zero.
 fn put_number(buf: &mut [u8], at: usize, n: u8) -> usize
@@ -50,15 +28,15 @@ fn put_number(buf: &mut [u8], at: usize, n: u8) -> usize
     ensures { λ r. ⌜ Put (now (buf .entry)) at (decimal n) r (now (buf .exit)) ⌝ }
 {
     if n < 10 {
-        return put_byte(buf, at, 48 + n);
+        return buffer::put_byte(buf, at, 48 + n);
     }
     if n < 100 {
-        let ones = put_byte(buf, at, 48 + n / 10);
-        return put_byte(buf, ones, 48 + n % 10);
+        let ones = buffer::put_byte(buf, at, 48 + n / 10);
+        return buffer::put_byte(buf, ones, 48 + n % 10);
     }
-    let tens = put_byte(buf, at, 48 + n / 100);
-    let ones = put_byte(buf, tens, 48 + n / 10 % 10);
-    put_byte(buf, ones, 48 + n % 10)
+    let tens = buffer::put_byte(buf, at, 48 + n / 100);
+    let ones = buffer::put_byte(buf, tens, 48 + n / 10 % 10);
+    buffer::put_byte(buf, ones, 48 + n % 10)
 }
 
 // A tab and a number.
@@ -66,7 +44,7 @@ fn put_field(buf: &mut [u8], at: usize, n: u8) -> usize
     requires { ⌜ at + length (9 ∷ decimal n) ≤ length (now buf) ⌝ }
     ensures { λ r. ⌜ Put (now (buf .entry)) at (9 ∷ decimal n) r (now (buf .exit)) ⌝ }
 {
-    let k = put_byte(buf, at, 9);
+    let k = buffer::put_byte(buf, at, 9);
     put_number(buf, k, n)
 }
 
@@ -76,30 +54,30 @@ fn put_line1(buf: &mut [u8], at: usize, word: &[u8], a: u8) -> usize
     requires { ⌜ at + (length (now word) + length (decimal a) + 2) ≤ length (now buf) ⌝ }
     ensures { λ r. ⌜ Put (now (buf .entry)) at (line1 (now (word .entry)) a) r (now (buf .exit)) ⌝ }
 {
-    let i = put_word(buf, at, word);
+    let i = buffer::put_word(buf, at, word);
     let j = put_field(buf, i, a);
-    put_byte(buf, j, 10)
+    buffer::put_byte(buf, j, 10)
 }
 
 fn put_line2(buf: &mut [u8], at: usize, word: &[u8], a: u8, b: u8) -> usize
     requires { ⌜ at + (length (now word) + length (decimal a) + length (decimal b) + 3) ≤ length (now buf) ⌝ }
     ensures { λ r. ⌜ Put (now (buf .entry)) at (line2 (now (word .entry)) a b) r (now (buf .exit)) ⌝ }
 {
-    let i = put_word(buf, at, word);
+    let i = buffer::put_word(buf, at, word);
     let j = put_field(buf, i, a);
     let k = put_field(buf, j, b);
-    put_byte(buf, k, 10)
+    buffer::put_byte(buf, k, 10)
 }
 
 fn put_line3(buf: &mut [u8], at: usize, word: &[u8], a: u8, b: u8, c: u8) -> usize
     requires { ⌜ at + (length (now word) + length (decimal a) + length (decimal b) + length (decimal c) + 4) ≤ length (now buf) ⌝ }
     ensures { λ r. ⌜ Put (now (buf .entry)) at (line3 (now (word .entry)) a b c) r (now (buf .exit)) ⌝ }
 {
-    let i = put_word(buf, at, word);
+    let i = buffer::put_word(buf, at, word);
     let j = put_field(buf, i, a);
     let k = put_field(buf, j, b);
     let m = put_field(buf, k, c);
-    put_byte(buf, m, 10)
+    buffer::put_byte(buf, m, 10)
 }
 
 // ---- lengths

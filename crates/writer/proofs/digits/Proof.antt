@@ -2,7 +2,7 @@
 use mathlib.Core.Path.{sym, ap}
 use borrow.Author.Needs.{needs}
 use lib.ListN.{length}
-use Rattle.writer.specs.Put.{one-digit, two-digits, three-digits}
+use Rattle.writer.specs.Numbers.{one-digit, two-digits, three-digits}
 use Rattle.writer.proofs.digits.Statement.{statement}
 use Rattle.writer.proofs.digits.Tie as tie
 

@@ -1,6 +1,6 @@
 -- `writer::put_field` meets its contract: a tab, then a number.
 use borrow.Author.Needs.{needs}
-use Rattle.writer.specs.Put.{put-then}
+use Rattle.buffer.specs.Put.{put-then}
 use Rattle.writer.proofs.put_field.Statement.{statement}
 use Rattle.writer.proofs.put_field.Tie as tie
 

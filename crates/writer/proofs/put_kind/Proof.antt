@@ -7,7 +7,7 @@ use Rattle.document.specs.declared.Word.the-variants as W
 use Rattle.document.specs.declared.Kind.{Kind}
 use Rattle.document.specs.Lines.{spelled}
 use Rattle.writer.specs.Parts.{ofKind, line1-long, line2-long, line3-long}
-use Rattle.writer.specs.Put.{put-none, put-same}
+use Rattle.buffer.specs.Put.{put-none, put-same}
 use Rattle.writer.proofs.put_kind.Statement.{statement}
 use Rattle.writer.proofs.put_kind.Tie as tie
 

@@ -1,6 +1,6 @@
 -- `writer::put_line1` meets its contract, field by field.
 use borrow.Author.Needs.{needs}
-use Rattle.writer.specs.Put.{put-then}
+use Rattle.buffer.specs.Put.{put-then}
 use Rattle.writer.proofs.put_line1.Statement.{statement}
 use Rattle.writer.proofs.put_line1.Tie as tie
 

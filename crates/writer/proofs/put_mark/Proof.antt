@@ -7,7 +7,7 @@ use lib.ListN.{length}
 use Rattle.document.specs.declared.Word.the-variants as W
 use Rattle.document.specs.Lines.{spelled}
 use Rattle.writer.specs.Parts.{ofMark, line1-long}
-use Rattle.writer.specs.Put.{put-none, put-same}
+use Rattle.buffer.specs.Put.{put-none, put-same}
 use Rattle.writer.proofs.put_mark.Statement.{statement}
 use Rattle.writer.proofs.put_mark.Tie as tie
 

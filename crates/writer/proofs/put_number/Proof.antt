@@ -3,7 +3,8 @@ use mathlib.Core.Path.{sym, ap}
 use native.Mathlib.Omega.{arith}
 use borrow.Author.Needs.{needs}
 use lib.ListN.{length}
-use Rattle.writer.specs.Put.{put-long, put-then, put-same, one-digit, two-digits, three-digits}
+use Rattle.buffer.specs.Put.{put-long, put-then, put-same}
+use Rattle.writer.specs.Numbers.{one-digit, two-digits, three-digits}
 use Rattle.writer.proofs.put_number.Statement.{statement}
 use Rattle.writer.proofs.put_number.Tie as tie
 

@@ -4,7 +4,7 @@ use Prim.Native.Nat.{ℕ, _-_, _≤_}
 use native.Mathlib.Omega.{arith}
 use borrow.Author.Needs.{needs}
 use lib.ListN.{length}
-use Rattle.writer.specs.Put.{Put, put-none, put-same, put-then, put-long}
+use Rattle.buffer.specs.Put.{Put, put-none, put-same, put-then, put-long}
 use Rattle.writer.specs.Parts.{section, section-none, section-more, section-within}
 use Rattle.writer.proofs.put_section.Statement.{statement}
 use Rattle.writer.proofs.put_section.Tie as tie

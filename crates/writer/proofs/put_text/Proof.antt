@@ -3,7 +3,7 @@ use native.Mathlib.Omega.{arith}
 use borrow.Author.Needs.{needs}
 use Rattle.document.specs.declared.Word.the-variants as W
 use Rattle.document.specs.Lines.{spelled}
-use Rattle.writer.specs.Put.{put-then, put-long}
+use Rattle.buffer.specs.Put.{put-then, put-long}
 use Rattle.writer.specs.Parts.{textParts, text-long, line2-long}
 use Rattle.writer.proofs.put_text.Statement.{statement}
 use Rattle.writer.proofs.put_text.Tie as tie

@@ -1,13 +1,11 @@
 -- Bytes put into a lent buffer from a place on; the others keep their content.
 use mathlib.Core.Path.{_≡_, refl, ap, subst, _∙_}
 use mathlib.Core.List.{List, [], _∷_, _++_}
-use Prim.Native.Nat.{ℕ, suc, _+_, _/_, _%_, _≤_, _<_}
+use Prim.Native.Nat.{ℕ, suc, _+_, _≤_, _<_}
 use native.Mathlib.Numerals.{add-one}
 use native.Mathlib.Omega.{arith}
-use borrow.Author.Tests.{lt-ltb, le-ltb}
 use lib.ListN.{length, getD, take, drop, set, length-append}
 use lib.Seq.{sets, length-sets, sets-eq, take-suc}
-use Rattle.document.specs.Lines.{decimal}
 
 -- the buffer b with the bytes v from `at` on
 unfoldable pub wrote : List ℕ → ℕ → List ℕ → List ℕ
@@ -57,17 +55,3 @@ put-same {b} {at} {v} {w} {r} {c} p e = subst (λ (x : List ℕ). Put b at x r c
 -- one byte more of a word
 pub put-next : (xs b c : List ℕ) (at j o : ℕ) → j < length xs → Put b at (take j xs) o c → Put b at (take (j + 1) xs) (o + 1) (set c o (getD xs j 0))
 put-next xs b c at j o h p = rw (add-one j, take-suc xs j 0 h) (put-then p (put-one c o (getD xs j 0)))
-
--- ---- the three forms of a number
-
-pub one-digit : (n : ℕ) → n < 10 → decimal n ≡ (48 + n) ∷ []
-unfolding decimal
-one-digit n h = simp (lt-ltb n 10 h)
-
-pub two-digits : (n : ℕ) → 10 ≤ n → n < 100 → decimal n ≡ (48 + n / 10) ∷ (48 + n % 10) ∷ []
-unfolding decimal
-two-digits n l h = simp (le-ltb n 10 l, lt-ltb n 100 h)
-
-pub three-digits : (n : ℕ) → 100 ≤ n → decimal n ≡ (48 + n / 100) ∷ (48 + n / 10 % 10) ∷ (48 + n % 10) ∷ []
-unfolding decimal
-three-digits n l = simp (le-ltb n 10 (omega arith), le-ltb n 100 l)

@@ -1,4 +1,4 @@
--- `writer::put_word` meets its contract. The loop's invariant: the first j bytes of the word were put.
+-- `buffer::put_word` meets its contract. The loop's invariant: the first j bytes of the word were put.
 use mathlib.Core.Path.{_≡_, refl, subst}
 use mathlib.Core.List.{List}
 use Prim.Native.Nat.{ℕ, _≤_, _-_, _+_}
@@ -6,9 +6,9 @@ use native.Mathlib.Omega.{arith}
 use borrow.Author.Needs.{needs}
 use lib.ListN.{length, take, length-set}
 use lib.Seq.{take-all}
-use Rattle.writer.specs.Put.{Put, put-none, put-next}
-use Rattle.writer.proofs.put_word.Statement.{statement}
-use Rattle.writer.proofs.put_word.Tie as tie
+use Rattle.buffer.specs.Put.{Put, put-none, put-next}
+use Rattle.buffer.proofs.put_word.Statement.{statement}
+use Rattle.buffer.proofs.put_word.Tie as tie
 
 abbrev Inv-loop : tie.InvT-loop
 Inv-loop buf₀ at word j₀ o₀ buf j o = (j ≤ length word) × (o ≡ at + j) × (length buf ≡ length buf₀) × Put buf₀ at (take j word) o buf

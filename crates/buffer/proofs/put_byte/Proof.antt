@@ -1,8 +1,8 @@
--- `writer::put_byte` meets its contract: one store.
+-- `buffer::put_byte` meets its contract: one store.
 use borrow.Author.Needs.{needs}
-use Rattle.writer.specs.Put.{put-one}
-use Rattle.writer.proofs.put_byte.Statement.{statement}
-use Rattle.writer.proofs.put_byte.Tie as tie
+use Rattle.buffer.specs.Put.{put-one}
+use Rattle.buffer.proofs.put_byte.Statement.{statement}
+use Rattle.buffer.proofs.put_byte.Tie as tie
 
 slice-write-buf : tie.Need-slice-write-buf
 slice-write-buf c = search needs
