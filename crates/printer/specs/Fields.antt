@@ -49,11 +49,9 @@ line-is : (f : List ℕ) (fs : List (List ℕ)) → printedLine (f ∷ fs) ≡ (
 unfolding printedLine
 line-is f fs = ap (λ (v : List ℕ). v ++ 10 ∷ []) (join-spaced f fs)
 
-pub answer-is : (word : List ℕ) (t : ℕ) (answer : Judged) → ((word ++ numberField t) ++ spaced (verdictFields (answer .verdict) (held (answer .set)))) ++ 10 ∷ [] ≡ answerLine word t answer
-unfolding answerLine spaced
-answer-is word t answer =
-    let fs = verdictFields (answer .verdict) (held (answer .set)) in
-    ap (λ (v : List ℕ). v ++ 10 ∷ []) (append-assoc word (numberField t) (spaced fs)) ∙ sym (line-is word (printed t ∷ fs))
+pub answer-is : (word : List ℕ) (t : ℕ) (answer : Judged) → (word ++ spaced (printed t ∷ verdictFields (answer .verdict) (held (answer .set)))) ++ 10 ∷ [] ≡ answerLine word t answer
+unfolding answerLine
+answer-is word t answer = sym (line-is word (printed t ∷ verdictFields (answer .verdict) (held (answer .set))))
 
 pub refused-is : (f : Refusal) (line : ℕ) → ((refusedWord ++ numberField (numberOf f)) ++ numberField line) ++ 10 ∷ [] ≡ refusedLine f line
 unfolding spaced
@@ -63,28 +61,31 @@ refused-is f line =
     ∙ ap (λ (v : List ℕ). refusedWord ++ (numberField (numberOf f) ++ v)) (sym (append-nil (numberField line))))
     ∙ sym (line-is refusedWord (printed (numberOf f) ∷ printed line ∷ []))
 
-two-fields : (word : List ℕ) (n : ℕ) → (32 ∷ word) ++ numberField n ≡ spaced (word ∷ printed n ∷ [])
+three-fields : (t : ℕ) (word : List ℕ) (n : ℕ) → (numberField t ++ (32 ∷ word)) ++ numberField n ≡ spaced (printed t ∷ word ∷ printed n ∷ [])
 unfolding spaced
-two-fields word n = ap (λ (v : List ℕ). (32 ∷ word) ++ v) (sym (append-nil (numberField n)))
+three-fields t word n =
+    append-assoc (numberField t) (32 ∷ word) (numberField n)
+    ∙ ap (λ (v : List ℕ). numberField t ++ ((32 ∷ word) ++ v)) (sym (append-nil (numberField n)))
 
 spaced-wires : (ps : List ℕ) → spaced (map printed ps) ≡ wireFields ps
 unfolding spaced wireFields
 spaced-wires [] = refl
 spaced-wires (p ∷ ps) = ap (λ (v : List ℕ). numberField p ++ v) (spaced-wires ps)
 
-pub pass-is : (k : ℕ) (ps : List ℕ) → (32 ∷ passWord) ++ numberField k ≡ spaced (verdictFields (Says.Pass k) ps)
+pub pass-is : (t k : ℕ) (ps : List ℕ) → (numberField t ++ (32 ∷ passWord)) ++ numberField k ≡ spaced (printed t ∷ verdictFields (Says.Pass k) ps)
 unfolding verdictFields
-pass-is k ps = two-fields passWord k
+pass-is t k ps = three-fields t passWord k
 
-pub open-is : (k : ℕ) (ps : List ℕ) → ((32 ∷ openWord) ++ numberField k) ++ wireFields ps ≡ spaced (verdictFields (Says.Open k) ps)
+pub open-is : (t k : ℕ) (ps : List ℕ) → ((numberField t ++ (32 ∷ openWord)) ++ numberField k) ++ wireFields ps ≡ spaced (printed t ∷ verdictFields (Says.Open k) ps)
 unfolding verdictFields spaced
-open-is k ps =
-    append-assoc (32 ∷ openWord) (numberField k) (wireFields ps)
-    ∙ ap (λ (v : List ℕ). (32 ∷ openWord) ++ (numberField k ++ v)) (sym (spaced-wires ps))
+open-is t k ps =
+    append-assoc (numberField t ++ (32 ∷ openWord)) (numberField k) (wireFields ps)
+    ∙ append-assoc (numberField t) (32 ∷ openWord) (numberField k ++ wireFields ps)
+    ∙ ap (λ (v : List ℕ). numberField t ++ ((32 ∷ openWord) ++ (numberField k ++ v))) (sym (spaced-wires ps))
 
-pub not-is : (f : Refusal) (ps : List ℕ) → (32 ∷ refusedWord) ++ numberField (numberOf f) ≡ spaced (verdictFields (Says.Refused f) ps)
+pub not-is : (t : ℕ) (f : Refusal) (ps : List ℕ) → (numberField t ++ (32 ∷ refusedWord)) ++ numberField (numberOf f) ≡ spaced (printed t ∷ verdictFields (Says.Refused f) ps)
 unfolding verdictFields
-not-is f ps = two-fields refusedWord (numberOf f)
+not-is t f ps = three-fields t refusedWord (numberOf f)
 
 -- ---- the wires one by one
 
@@ -110,26 +111,43 @@ wires-few (p ∷ ps) =
     let y = wires-few ps in
     simp length-append (omega arith)
 
--- the fields of a verdict take at most 110 bytes
-pub verdict-few : (v : Verdict) (ps : List ℕ) → length ps ≤ 4 → length (spaced (verdictFields v ps)) ≤ 110
-verdict-few (Says.Pass k) ps h = let z = printed-few k in rw (← pass-is k ps) (simp length-append (omega arith))
-verdict-few (Says.Open k) ps h =
+-- the fields behind the first take at most 131 bytes
+pub verdict-few : (t : ℕ) (v : Verdict) (ps : List ℕ) → length ps ≤ 4 → length (spaced (printed t ∷ verdictFields v ps)) ≤ 131
+verdict-few t (Says.Pass k) ps h =
+    let x = printed-few t in
+    let z = printed-few k in
+    rw (← pass-is t k ps) (simp length-append (omega arith))
+verdict-few t (Says.Open k) ps h =
+    let x = printed-few t in
     let z = printed-few k in
     let y = wires-few ps in
-    rw (← open-is k ps) (simp length-append (omega arith))
-verdict-few (Says.Refused f) ps h = let z = printed-few (numberOf f) in rw (← not-is f ps) (simp length-append (omega arith))
+    rw (← open-is t k ps) (simp length-append (omega arith))
+verdict-few t (Says.Refused f) ps h =
+    let x = printed-few t in
+    let z = printed-few (numberOf f) in
+    rw (← not-is t f ps) (simp length-append (omega arith))
 
 -- a line takes at most 138
 pub answer-few : (word : List ℕ) (t : ℕ) (answer : Judged) → length word ≤ 6 → length (answer .set .places) ≤ 4 → length (answerLine word t answer) ≤ 138
 answer-few word t answer h l =
-    let z = printed-few t in
     let m : length (held (answer .set)) ≤ 4 = omega (arith, length-take (answer .set .len) (answer .set .places)) in
-    let y = verdict-few (answer .verdict) (held (answer .set)) m in
+    let y = verdict-few t (answer .verdict) (held (answer .set)) m in
     rw (← answer-is word t answer) (simp length-append (omega arith))
 
--- where a word with a number behind it ends
-pub counted-ends : {b c : List ℕ} {at r : ℕ} (word : List ℕ) (n : ℕ) → Put b at (word ++ numberField n) r c → r ≤ at + (length word + 21)
-counted-ends word n p = let z = printed-few n in let y = length-append word (numberField n) in omega (arith, p .next)
+pub refused-few : (f : Refusal) (line : ℕ) → length (refusedLine f line) ≤ 50
+refused-few f line =
+    let z = printed-few (numberOf f) in
+    let y = printed-few line in
+    rw (← refused-is f line) (simp length-append (omega arith))
+
+-- where the count ends
+pub counted-ends : {b c : List ℕ} {at r : ℕ} (t : ℕ) (word : List ℕ) (n : ℕ) → Put b at ((numberField t ++ word) ++ numberField n) r c → r ≤ at + (length word + 42)
+counted-ends t word n p =
+    let x = printed-few t in
+    let z = printed-few n in
+    let l = length-append (numberField t ++ word) (numberField n) in
+    let m = length-append (numberField t) word in
+    omega (arith, p .next)
 
 -- no more than the four places are held
 pub held-whole : (places : List ℕ) (len i : ℕ) → length places ≡ 4 → i ≡ min len 4 → take i places ≡ take len places

@@ -4,7 +4,7 @@ use document::ProbeSet;
 use document::Refusal;
 use document::Verdict;
 ghost use mathlib.Core.Path.{_≡_};
-ghost use mathlib.Core.List.{_++_};
+ghost use mathlib.Core.List.{_∷_, _++_};
 ghost use Prim.Native.Nat.{_+_, _≤_, min};
 ghost use lib.ListN.{length};
 ghost use Rattle.buffer.specs.Put.{Put};
@@ -64,13 +64,14 @@ fn put_field(buf: &mut [u8], at: usize, n: u64) -> usize
     put_number(buf, k, n)
 }
 
-// A word of a verdict, which has its space, and a number.
-fn put_counted(buf: &mut [u8], at: usize, word: &[u8], count: u64) -> usize
-    requires { ⌜ at + (length (now word) + 21) ≤ length (now buf) ⌝ }
-    ensures { λ r. ⌜ Put (now (buf .entry)) at (now (word .entry) ++ numberField count) r (now (buf .exit)) ⌝ }
+// The order, the word of the verdict, which has its space, and the count.
+fn put_counted(buf: &mut [u8], at: usize, t: u64, word: &[u8], count: u64) -> usize
+    requires { ⌜ at + (length (now word) + 42) ≤ length (now buf) ⌝ }
+    ensures { λ r. ⌜ Put (now (buf .entry)) at ((numberField t ++ now (word .entry)) ++ numberField count) r (now (buf .exit)) ⌝ }
 {
-    let k = buffer::put_word(buf, at, word);
-    put_field(buf, k, count)
+    let i = put_field(buf, at, t);
+    let j = buffer::put_word(buf, i, word);
+    put_field(buf, j, count)
 }
 
 // The wires of a set.
@@ -90,18 +91,18 @@ fn put_wires(buf: &mut [u8], at: usize, set: ProbeSet) -> usize
     o
 }
 
-// A verdict with its count or number, and of an open one the wires of the set.
-fn put_verdict(buf: &mut [u8], at: usize, verdict: Verdict, set: ProbeSet) -> usize
-    requires { ⌜ at + 110 ≤ length (now buf) ⌝ }
-    ensures { λ r. ⌜ Put (now (buf .entry)) at (spaced (verdictFields verdict (held set))) r (now (buf .exit)) ⌝ }
+// The order and the verdict with its count or number, and of an open one the wires of the set.
+fn put_verdict(buf: &mut [u8], at: usize, t: u64, verdict: Verdict, set: ProbeSet) -> usize
+    requires { ⌜ at + 131 ≤ length (now buf) ⌝ }
+    ensures { λ r. ⌜ Put (now (buf .entry)) at (spaced (printed t ∷ verdictFields verdict (held set))) r (now (buf .exit)) ⌝ }
 {
     match verdict {
-        Verdict::Pass(count) => put_counted(buf, at, b" pass", count),
+        Verdict::Pass(count) => put_counted(buf, at, t, b" pass", count),
         Verdict::Open(count) => {
-            let k = put_counted(buf, at, b" open", count);
+            let k = put_counted(buf, at, t, b" open", count);
             put_wires(buf, k, set)
         }
-        Verdict::Refused(f) => put_counted(buf, at, b" refused", refusal_number(f)),
+        Verdict::Refused(f) => put_counted(buf, at, t, b" refused", refusal_number(f)),
     }
 }
 
@@ -110,11 +111,10 @@ pub fn put_answer(buf: &mut [u8], at: usize, word: &[u8], t: usize, answer: Judg
     requires { ⌜ (length (now word) ≤ 6) × (at + 138 ≤ length (now buf)) ⌝ }
     ensures { λ r. ⌜ Put (now (buf .entry)) at (answerLine (now (word .entry)) t answer) r (now (buf .exit)) ⌝ }
 {
-    let order = buffer::put_word(buf, at, word);
-    let says = put_field(buf, order, t as u64);
+    let k = buffer::put_word(buf, at, word);
     let verdict = answer.verdict;
     let set = answer.set;
-    let end = put_verdict(buf, says, verdict, set);
+    let end = put_verdict(buf, k, t as u64, verdict, set);
     buffer::put_byte(buf, end, 10)
 }
 
@@ -123,7 +123,9 @@ pub fn put_refused(buf: &mut [u8], at: usize, f: Refusal, line: usize) -> usize
     requires { ⌜ at + 50 ≤ length (now buf) ⌝ }
     ensures { λ r. ⌜ Put (now (buf .entry)) at (refusedLine f line) r (now (buf .exit)) ⌝ }
 {
-    let k = put_counted(buf, at, b"refused", refusal_number(f));
-    let end = put_field(buf, k, line as u64);
+    let number = refusal_number(f);
+    let i = buffer::put_word(buf, at, b"refused");
+    let j = put_field(buf, i, number);
+    let end = put_field(buf, j, line as u64);
     buffer::put_byte(buf, end, 10)
 }

@@ -1,4 +1,4 @@
--- `printer::put_answer` meets its contract, field by field.
+-- `printer::put_answer` meets its contract: the word, the other fields, the LF.
 use mathlib.Core.Path.{_≡_}
 use Prim.Native.Nat.{_≤_}
 use native.Mathlib.Omega.{arith}
@@ -6,7 +6,6 @@ use borrow.Author.Needs.{needs}
 use lib.ListN.{length, length-take}
 use Rattle.document.specs.ProbeSets.{held}
 use Rattle.printer.specs.Fields.{verdict-few, answer-is}
-use Rattle.printer.specs.Digits.{printed-few}
 use Rattle.buffer.specs.Put.{put-long, put-then, put-same}
 use Rattle.printer.proofs.put_answer.Statement.{statement}
 use Rattle.printer.proofs.put_answer.Tie as tie
@@ -14,45 +13,30 @@ use Rattle.printer.proofs.put_answer.Tie as tie
 put-word-requires : tie.Need-put-word-requires
 put-word-requires c κs = search needs
 
-put-field-requires : tie.Need-put-field-requires
-put-field-requires c κs = search needs
-
 put-verdict-requires : tie.Need-put-verdict-requires
-put-verdict-requires c κs = let s = c .before .before .before .before .before .before .before .before .before .before .before .before in
-    let p = c .before .before .before .before .before .before .before .before .put-word .ensures in
-    let q = c .before .before .before .before .put-field .ensures in
-    let l = put-long p in
-    let m = put-long q in
-    omega (arith, printed-few (s .args .t), s .pre .0, s .pre .1, p .next, q .next)
+put-verdict-requires c κs = search needs
 
 put-byte-requires : tie.Need-put-byte-requires
-put-byte-requires c κs = let s = c .before .before .before .before .before .before .before .before .before .before .before .before .before .before .before .before in
-    let p = c .before .before .before .before .before .before .before .before .before .before .before .before .put-word .ensures in
-    let q = c .before .before .before .before .before .before .before .before .put-field .ensures in
+put-byte-requires c κs = let s = c .before .before .before .before .before .before .before .before .before .before .before .before in
+    let p = c .before .before .before .before .before .before .before .before .put-word .ensures in
     let v = c .before .before .before .put-verdict .ensures in
     let l = put-long p in
-    let m = put-long q in
     let k = put-long v in
-    let four : length (s .args .answer .set .places) ≡ 4 = search needs in
-    let few : length (held (s .args .answer .set)) ≤ 4 = omega (arith, length-take (s .args .answer .set .len) (s .args .answer .set .places)) in
-    let f = verdict-few (s .args .answer .verdict) (held (s .args .answer .set)) few in
-    omega (arith, printed-few (s .args .t), s .pre .0, s .pre .1, p .next, q .next, v .next)
+    let a = s .args .answer in
+    let four : length (a .set .places) ≡ 4 = search needs in
+    let few : length (held (a .set)) ≤ 4 = omega (arith, length-take (a .set .len) (a .set .places)) in
+    let f = verdict-few (s .args .t) (a .verdict) (held (a .set)) few in
+    omega (arith, s .pre .0, s .pre .1, p .next, v .next)
 
 same-length : tie.Need-same-length
 same-length c = search needs
 
 returns : tie.Need-returns
-returns c = let s = c .before .before .before .before .before .before .before .before .before .before .before .before .before .before .before .before .before .before .before in
-    put-same (put-then (put-then (put-then (c .before .before .before .before .before .before .before .before .before .before .before .before .before .before .before .put-word .ensures) (c .before .before .before .before .before .before .before .before .before .before .before .put-field .ensures)) (c .before .before .before .before .before .before .put-verdict .ensures)) (c .before .before .put-byte .ensures))
+returns c = let s = c .before .before .before .before .before .before .before .before .before .before .before .before .before .before .before in
+    put-same (put-then (put-then (c .before .before .before .before .before .before .before .before .before .before .before .put-word .ensures) (c .before .before .before .before .before .before .put-verdict .ensures)) (c .before .before .put-byte .ensures))
     (answer-is (s .args .word .now) (s .args .t) (s .args .answer))
 
 pub put-answer-spec : {M : Type 1} → statement M
 put-answer-spec =
     tie.close
-    (tie.spec
-    put-word-requires
-    put-field-requires
-    put-verdict-requires
-    put-byte-requires
-    same-length
-    returns)
+    (tie.spec put-word-requires put-verdict-requires put-byte-requires same-length returns)

@@ -32,7 +32,7 @@ put-wires-requires : tie.Need-put-wires-requires
 put-wires-requires c κs = let s = c .before .before .before .before .before .before .before .before .before .before in
     let p = c .before .before .before .put-counted2 .ensures in
     let l = put-long p in
-    let e = counted-ends (32 ∷ openWord) _ p in
+    let e = counted-ends (s .args .t) (32 ∷ openWord) _ p in
     omega (arith, s .pre)
 
 enum-known-verdict-3 : tie.Need-enum-known-verdict-3
@@ -51,19 +51,20 @@ same-length : tie.Need-same-length
 same-length c = search needs
 
 returns : tie.Need-returns
-returns c = rw (c .before .before .before .before .before .before .verdict .given .1) (put-same (c .before .before .put-counted .ensures) (pass-is _ _))
+returns c = rw (c .before .before .before .before .before .before .verdict .given .1) (put-same (c .before .before .put-counted .ensures) (pass-is _ _ _))
 
 same-length-2 : tie.Need-same-length-2
 same-length-2 c = search needs
 
 returns-2 : tie.Need-returns-2
-returns-2 c = rw (c .before .before .before .before .before .before .before .before .before .before .verdict2 .given .1) (put-same (put-then (c .before .before .before .before .before .before .put-counted2 .ensures) (c .before .before .put-wires .ensures)) (open-is _ _))
+returns-2 c = rw (c .before .before .before .before .before .before .before .before .before .before .verdict2 .given .1) (put-same (put-then (c .before .before .before .before .before .before .put-counted2 .ensures) (c .before .before .put-wires .ensures)) (open-is _ _ _))
 
 same-length-3 : tie.Need-same-length-3
 same-length-3 c = search needs
 
 returns-3 : tie.Need-returns-3
-returns-3 c = rw (c .before .before .before .before .before .before .before .verdict3 .given .1) (put-same (c .before .before .put-counted3 .ensures) (ap (λ (k : ℕ). (32 ∷ refusedWord) ++ numberField k) (c .before .before .before .refusal-number .ensures) ∙ not-is _ _))
+returns-3 c = let s = c .before .before .before .before .before .before .before .before .before .before in
+    rw (c .before .before .before .before .before .before .before .verdict3 .given .1) (put-same (c .before .before .put-counted3 .ensures) (ap (λ (k : ℕ). (numberField (s .args .t) ++ (32 ∷ refusedWord)) ++ numberField k) (c .before .before .before .refusal-number .ensures) ∙ not-is _ _ _))
 
 pub put-verdict-spec : {M : Type 1} → statement M
 put-verdict-spec =
