@@ -2,58 +2,15 @@
 use document::Outcome;
 use document::Ran;
 use document::Read;
-use document::Refusal;
 use document::Wire;
 use document::Written;
+use show::outcome_number;
+use show::say;
+use show::say_number;
+use show::wide;
+use show::wide_byte;
 
-// ---- printing
-
-fn say(word: &[u8]) {
-    io::write_all(1, word);
-}
-
-fn say_number(n: u64) {
-    say(b" ");
-    io::print_decimal(1, n);
-}
-
-fn wide(n: usize) -> u64 {
-    n as u64
-}
-
-fn wide_byte(b: u8) -> u64 {
-    b as u64
-}
-
-// The number of a refusal in the table.
-fn number_of(f: Refusal) -> u64 {
-    match f {
-        Refusal::Length => 1,
-        Refusal::Byte => 2,
-        Refusal::Header => 3,
-        Refusal::Range => 4,
-        Refusal::Form => 5,
-        Refusal::Next => 6,
-        Refusal::Operand => 7,
-        Refusal::Ceiling => 8,
-        Refusal::Output => 9,
-        Refusal::Lent => 10,
-        Refusal::Records => 11,
-        Refusal::Order => 12,
-        Refusal::Probes => 13,
-        Refusal::Bits => 14,
-        Refusal::Buffer => 15,
-        Refusal::Steps => 16,
-    }
-}
-
-// 0 where the call did what was asked, or the number of the refusal.
-fn outcome_number(o: Outcome) -> u64 {
-    match o {
-        Outcome::Done => 0,
-        Outcome::Refused(f) => number_of(f),
-    }
-}
+// ---- bytes
 
 // Each of the first n bytes as a number, and the next.
 fn say_first(bytes: &[u8], n: usize) {
@@ -237,7 +194,7 @@ fn show_calls(r: Read, text: &[u8]) {
     show_spoiled(r);
 }
 
-fn show(text: &[u8]) {
+fn show_text(text: &[u8]) {
     let r = reader::read(text);
     let o = r.outcome;
     say(b"read");
@@ -257,10 +214,9 @@ fn show(text: &[u8]) {
 fn show_all(texts: &[u8]) {
     let mut at = 0;
     while at < texts.len() {
-        let rest = line::tail(texts, at);
-        let end = line::part(rest, 0);
-        show(line::head(rest, end));
-        at = at + end + 1;
+        let text = show::text_at(texts, at);
+        show_text(text);
+        at = at + text.len() + 1;
     }
 }
 

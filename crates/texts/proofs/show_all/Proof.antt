@@ -1,9 +1,7 @@
 -- `texts::show_all` is safe and ends.
-use Prim.Native.Nat.{_+_, _≤_, _-_}
 use borrow.Author.Needs.{needs}
-use mathlib.Core.Path.{ap}
-use native.Mathlib.Omega.{arith}
-use lib.ListN.{length, length-drop}
+use Prim.Native.Nat.{_+_, _≤_, _-_}
+use lib.ListN.{length}
 use Rattle.texts.proofs.show_all.Statement.{statement}
 use Rattle.texts.proofs.show_all.Tie as tie
 
@@ -16,17 +14,11 @@ abbrev μ-loop : tie.MeasureT-loop
 loop-holds : tie.Need-loop-holds Inv-loop μ-loop
 loop-holds c = search needs
 
-tail-requires : tie.Need-tail-requires Inv-loop μ-loop
-tail-requires c κs = search needs
+text-at-requires : tie.Need-text-at-requires Inv-loop μ-loop
+text-at-requires c κs = search needs
 
-part-requires : tie.Need-part-requires Inv-loop μ-loop
-part-requires c κs = search needs
-
-head-requires : tie.Need-head-requires Inv-loop μ-loop
-head-requires c κs = search needs
-
-show-requires : tie.Need-show-requires Inv-loop μ-loop
-show-requires c κs = search needs
+show-text-requires : tie.Need-show-text-requires Inv-loop μ-loop
+show-text-requires c κs = search needs
 
 add-at : tie.Need-add-at Inv-loop μ-loop
 add-at c = search needs
@@ -38,7 +30,7 @@ loop-less : tie.Need-loop-less Inv-loop μ-loop
 loop-less c = search needs
 
 loop-again : tie.Need-loop-again Inv-loop μ-loop
-loop-again c = omega (arith, simp length-drop at (ap length (c .before .before .before .tail .ensures)), c .before .before .part .ensures .within)
+loop-again c = search needs
 
 returns : tie.Need-returns Inv-loop μ-loop
 returns c = search needs
@@ -50,10 +42,8 @@ show-all-spec =
     Inv-loop
     μ-loop
     loop-holds
-    tail-requires
-    part-requires
-    head-requires
-    show-requires
+    text-at-requires
+    show-text-requires
     add-at
     add-at-2
     loop-less
