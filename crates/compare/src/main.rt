@@ -1,0 +1,178 @@
+// Random routines from a fixed seed: every public call of the product compared with an answer found by other means.
+mod chance;
+mod damaging;
+mod judged;
+mod making;
+mod same;
+mod sets;
+mod tally;
+mod texts;
+
+use crate::making::Draft;
+use second::spelling;
+
+const SEED: u64 = 20261115;
+
+const ROUTINES: u64 = 2400;
+
+const LARGE: u64 = 160;
+
+// ---- printing
+
+fn say(word: &[u8]) {
+    io::write_all(1, word);
+}
+
+fn say_number(n: u64) {
+    say(b" ");
+    io::print_decimal(1, n);
+}
+
+fn say_kind(t: [u64; 64], word: &[u8], kind: usize) {
+    say(word);
+    say(b": compared");
+    say_number(tally::at(t, kind));
+    say(b", differ");
+    say_number(tally::at(t, std::num::wrapping_add_usize(kind, 16)));
+    say(b"\n");
+}
+
+fn say_count(t: [u64; 64], word: &[u8], at: usize) {
+    say(word);
+    say_number(tally::at(t, at));
+    say(b"\n");
+}
+
+// How often each refusal was given, from 1 to 15.
+fn say_refusals(t: [u64; 64]) {
+    say(b"refusals 1 to 15:");
+    let mut k = 1;
+    while k < 16 {
+        say_number(tally::at(t, std::num::wrapping_add_usize(32, k)));
+        k += 1;
+    }
+    say(b"\n");
+}
+
+fn say_routines() {
+    say(b"routines judged at every order:");
+    say_number(ROUTINES);
+    say(b"\nroutines up to the ceilings:");
+    say_number(LARGE);
+    say(b"\nroutines about one ceiling:");
+    say_number(LARGE);
+    say(b"\n");
+}
+
+fn say_all(t: [u64; 64]) {
+    say_routines();
+    say_kind(t, b"texts read", tally::TEXTS);
+    say_kind(t, b"damaged texts read", tally::DAMAGED);
+    say_kind(t, b"routines written", tally::WRITINGS);
+    say_kind(t, b"routines run", tally::RUNS);
+    say_kind(t, b"lists of records tested", tally::RECORDS);
+    say_kind(t, b"additions to a set", tally::ADDITIONS);
+    say_kind(t, b"sets, needed shares", tally::NEEDED);
+    say_kind(t, b"sets, steps", tally::STEPS);
+    say_kind(t, b"plain judgements", tally::PLAIN);
+    say_kind(t, b"strong judgements", tally::STRONG);
+    say_kind(t, b"sets of a plain pass, starts counted", tally::EVEN);
+    say_kind(t, b"orders above a plain judgement", tally::LOWER);
+    say_count(t, b"plain judgements that pass:", 48);
+    say_count(t, b"plain judgements that are open:", 49);
+    say_count(t, b"strong judgements that pass:", 53);
+    say_count(t, b"strong judgements that are open:", 54);
+    say_count(t, b"sets that are not open:", 50);
+    say_count(t, b"sets that are open:", 51);
+    say_count(t, b"steps made:", 52);
+    say_refusals(t);
+}
+
+// The routine's text, if the answers differ in more than before it.
+fn show(t: [u64; 64], u: [u64; 64], g: Draft) {
+    if tally::differences(t) == tally::differences(u) {
+        return;
+    }
+    let ws = g.wires;
+    let mut text = [32u8; 4096];
+    spelling::text(&mut text, g.s, g.d, g.n, ws);
+    say(b"answers differ at this routine, or at what was made of it:\n");
+    say(&text);
+}
+
+// ---- the routines
+
+// Every call but the judgements, on the routine and on what a spoiling makes of it.
+fn compare_calls(t: [u64; 64], g: Draft, seed: u64, sets: u64) -> [u64; 64] {
+    let t1 = texts::compare_texts(t, g, chance::draw(seed, 1));
+    let t2 = texts::compare_writing(t1, g, chance::draw(seed, 2));
+    let t3 = texts::compare_running(t2, g, chance::draw(seed, 3));
+    let t4 = texts::compare_records(t3, g);
+    let t5 = sets::compare_sets(t4, g, chance::draw(seed, 4), sets);
+    let t6 = sets::compare_additions(t5, chance::draw(seed, 5));
+    compare_spoiled(t6, g, chance::draw(seed, 6))
+}
+
+fn compare_spoiled(t: [u64; 64], g: Draft, seed: u64) -> [u64; 64] {
+    let h = texts::spoiled(g, seed);
+    let t0 = texts::compare_text(t, h);
+    let t1 = texts::compare_records(t0, h);
+    let t2 = texts::compare_writing(t1, h, seed);
+    let t3 = texts::compare_running(t2, h, seed);
+    let t4 = texts::compare_records(t3, texts::spoiled(h, chance::draw(seed, 7)));
+    sets::compare_sets(t4, h, seed, 1)
+}
+
+fn compare_small(t: [u64; 64], seed: u64) -> [u64; 64] {
+    let g = making::routine(chance::draw(seed, 8));
+    let u = compare_calls(t, g, seed, 10);
+    let v = judged::compare_orders(u, g, seed);
+    show(t, v, g);
+    v
+}
+
+fn compare_all_small(t: [u64; 64]) -> [u64; 64] {
+    let mut u = t;
+    let mut k: u64 = 0;
+    while k < ROUTINES {
+        let next = compare_small(u, chance::draw(SEED, k));
+        u = next;
+        k += 1;
+    }
+    u
+}
+
+// Routines up to the ceilings are judged at order 1 only; order 5 is refused also where D is above it.
+fn compare_large(t: [u64; 64], seed: u64) -> [u64; 64] {
+    let g = making::large(chance::draw(seed, 9));
+    let u = compare_calls(t, g, seed, 4);
+    let v = judged::compare_order(u, texts::spoiled(g, seed), 1);
+    let w = judged::compare_order(v, g, 5);
+    show(t, w, g);
+    w
+}
+
+fn compare_crowded(t: [u64; 64], seed: u64) -> [u64; 64] {
+    let g = making::crowded(chance::draw(seed, 10));
+    let u = compare_calls(t, g, seed, 2);
+    let v = texts::compare_next(u, g);
+    show(t, v, g);
+    v
+}
+
+fn compare_all_large(t: [u64; 64]) -> [u64; 64] {
+    let mut u = t;
+    let mut k: u64 = 0;
+    while k < LARGE {
+        let v = compare_large(u, chance::draw(SEED ^ 1, k));
+        let next = compare_crowded(v, chance::draw(SEED ^ 2, k));
+        u = next;
+        k += 1;
+    }
+    u
+}
+
+fn main() {
+    let t = compare_all_small(tally::none());
+    say_all(compare_all_large(t));
+}

@@ -1,0 +1,123 @@
+// Additions to probe sets, the needed shares and the steps of one set, each by both.
+use crate::chance;
+use crate::making::Draft;
+use crate::same;
+use crate::tally;
+use document::ProbeSet;
+use second::adding;
+use second::judging;
+use second::padding;
+use second::wires;
+
+// ---- sets at random
+
+// Up to `size` wires below n.
+fn ascending(seed: u64, n: usize, size: usize) -> ProbeSet {
+    let mut set = judging::nothing();
+    let mut i = 0;
+    let mut k: u64 = 60;
+    while i < size {
+        let a = adding::add(set, chance::below(seed, k, n));
+        let next = a.set;
+        set = next;
+        k = std::num::wrapping_add_u64(k, 1);
+        i += 1;
+    }
+    set
+}
+
+// Any four places and any length: mostly no set.
+fn malformed(seed: u64) -> ProbeSet {
+    let a = chance::below(seed, 70, 140);
+    let b = chance::below(seed, 71, 140);
+    let places = [
+        wires::low_byte(a),
+        wires::low_byte(b),
+        wires::low_byte(chance::below(seed, 72, 256)),
+        wires::low_byte(chance::below(seed, 73, 256)),
+    ];
+    ProbeSet {
+        places,
+        len: chance::below(seed, 74, 7),
+    }
+}
+
+// Mostly a set of up to `size` wires below n.
+pub fn set_drawn(seed: u64, n: usize, size: usize) -> ProbeSet {
+    if chance::one_in(seed, 75, 12) {
+        return malformed(seed);
+    }
+    ascending(
+        seed,
+        n,
+        std::num::wrapping_add_usize(chance::below(seed, 76, size), 1),
+    )
+}
+
+// ---- additions
+
+fn compare_addition(t: [u64; 64], set: ProbeSet, w: usize) -> [u64; 64] {
+    let r = set.add(w);
+    let a = adding::add(set, w);
+    tally::compared(t, tally::ADDITIONS, same::same_addition(r, a))
+}
+
+pub fn compare_additions(t: [u64; 64], seed: u64) -> [u64; 64] {
+    let n = std::num::wrapping_add_usize(chance::below(seed, 77, 128), 1);
+    let set = set_drawn(seed, n, 4);
+    let w = chance::below(seed, 78, 132);
+    let u = compare_addition(t, set, w);
+    let small = set_drawn(chance::draw(seed, 79), 6, 3);
+    compare_addition(u, small, chance::below(seed, 80, 8))
+}
+
+// ---- one set
+
+fn order_drawn(seed: u64, d: usize) -> usize {
+    if chance::one_in(seed, 81, 16) {
+        return chance::below(seed, 82, 10);
+    }
+    if d < 2 {
+        return 1;
+    }
+    std::num::wrapping_add_usize(
+        chance::below(seed, 82, std::num::wrapping_sub_usize(d, 1)),
+        1,
+    )
+}
+
+// Now and then more wires than the order.
+fn size_drawn(seed: u64, order: usize) -> usize {
+    if chance::one_in(seed, 83, 12) {
+        return 4;
+    }
+    order
+}
+
+pub fn compare_set(t: [u64; 64], g: Draft, order: usize, set: ProbeSet) -> [u64; 64] {
+    let ws = g.wires;
+    let own = padding::judge_set(g.s, g.d, g.n, ws, order, set);
+    let r = rule::needs(g.s, g.d, g.n, ws, order, set);
+    let p = rule::pads(g.s, g.d, g.n, ws, order, set);
+    let u = tally::compared(t, tally::NEEDED, same::same_needed(r, own));
+    let v = tally::compared(u, tally::STEPS, same::same_padded(p, own));
+    let w = tally::refused(v, own.refusal);
+    if own.refusal != 0 {
+        return w;
+    }
+    let steps = own.len;
+    tally::more(tally::outcome(w, 50, own.undecided), 52, steps as u64)
+}
+
+pub fn compare_sets(t: [u64; 64], g: Draft, seed: u64, count: u64) -> [u64; 64] {
+    let mut u = t;
+    let mut k: u64 = 0;
+    while k < count {
+        let own = chance::draw(seed, k);
+        let order = order_drawn(own, g.d);
+        let next = compare_set(u, g, order, set_drawn(own, g.n, size_drawn(own, order)));
+        u = next;
+        k += 1;
+    }
+    u
+}
