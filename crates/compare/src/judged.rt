@@ -1,5 +1,6 @@
 // Whole judgements by both, and demand 3 by counting starts wherever a small routine passes.
 use crate::chance;
+use crate::lists;
 use crate::making::Draft;
 use crate::same;
 use crate::tally;
@@ -91,11 +92,12 @@ fn compare_plain(t: [u64; 64], g: Draft, order: usize) -> [u64; 64] {
     let r = judge::plain(g.s, g.d, g.n, ws, order);
     let own = judging::judge(false, g.s, g.d, g.n, ws, order);
     let u = tally::compared(t, tally::PLAIN, same::same_judged(r, own));
-    let v = tally::refused(u, own.refusal);
+    let listed = lists::compare_plain(u, g, order, own);
+    let v = tally::refused(listed, own.refusal);
     if own.refusal != 0 {
         return v;
     }
-    let w = tally::outcome(v, 48, own.hit);
+    let w = tally::outcome(v, tally::PLAIN_PASS, own.hit);
     if own.hit {
         return w;
     }
@@ -107,11 +109,12 @@ fn compare_strong(t: [u64; 64], g: Draft, order: usize) -> [u64; 64] {
     let r = judge::strong(g.s, g.d, g.n, ws, order);
     let own = judging::judge(true, g.s, g.d, g.n, ws, order);
     let u = tally::compared(t, tally::STRONG, same::same_judged(r, own));
-    let v = tally::refused(u, own.refusal);
+    let listed = lists::compare_strong(u, g, order, own);
+    let v = tally::refused(listed, own.refusal);
     if own.refusal != 0 {
         return v;
     }
-    tally::outcome(v, 53, own.hit)
+    tally::outcome(v, tally::STRONG_PASS, own.hit)
 }
 
 pub fn compare_order(t: [u64; 64], g: Draft, order: usize) -> [u64; 64] {
@@ -131,9 +134,9 @@ fn compare_judged(t: [u64; 64], g: Draft) -> [u64; 64] {
     let mut opened = false;
     let mut order = 1;
     while order < d {
-        let before = tally::at(u, 49);
+        let before = tally::at(u, tally::PLAIN_OPEN);
         let v = compare_order(u, g, order);
-        let is_open = tally::at(v, 49) != before;
+        let is_open = tally::at(v, tally::PLAIN_OPEN) != before;
         let next = compare_lower(v, opened, is_open);
         u = next;
         opened = opened | is_open;

@@ -2,6 +2,7 @@
 mod chance;
 mod damaging;
 mod judged;
+mod lists;
 mod making;
 mod same;
 mod sets;
@@ -33,7 +34,7 @@ fn say_kind(t: [u64; 64], word: &[u8], kind: usize) {
     say(b": compared");
     say_number(tally::at(t, kind));
     say(b", differ");
-    say_number(tally::at(t, std::num::wrapping_add_usize(kind, 16)));
+    say_number(tally::at(t, std::num::wrapping_add_usize(kind, tally::DIFFER)));
     say(b"\n");
 }
 
@@ -48,7 +49,7 @@ fn say_refusals(t: [u64; 64]) {
     say(b"refusals 1 to 15:");
     let mut k = 1;
     while k < 16 {
-        say_number(tally::at(t, std::num::wrapping_add_usize(32, k)));
+        say_number(tally::at(t, std::num::wrapping_add_usize(tally::REFUSED, k)));
         k += 1;
     }
     say(b"\n");
@@ -64,6 +65,17 @@ fn say_routines() {
     say(b"\n");
 }
 
+fn say_lists(t: [u64; 64]) {
+    say_kind(t, b"texts read into a lent list", tally::LENT_READS);
+    say_kind(t, b"texts read into too short a list", tally::LENT_SHORT);
+    say_kind(t, b"routines written from a list", tally::LENT_WRITINGS);
+    say_kind(t, b"routines run from a list", tally::LENT_RUNS);
+    say_kind(t, b"sets of a list, needed shares", tally::LENT_NEEDED);
+    say_kind(t, b"sets of a list, steps", tally::LENT_STEPS);
+    say_kind(t, b"plain judgements of a list", tally::LENT_PLAIN);
+    say_kind(t, b"strong judgements of a list", tally::LENT_STRONG);
+}
+
 fn say_all(t: [u64; 64]) {
     say_routines();
     say_kind(t, b"texts read", tally::TEXTS);
@@ -76,15 +88,16 @@ fn say_all(t: [u64; 64]) {
     say_kind(t, b"sets, steps", tally::STEPS);
     say_kind(t, b"plain judgements", tally::PLAIN);
     say_kind(t, b"strong judgements", tally::STRONG);
+    say_lists(t);
     say_kind(t, b"sets of a plain pass, starts counted", tally::EVEN);
     say_kind(t, b"orders above a plain judgement", tally::LOWER);
-    say_count(t, b"plain judgements that pass:", 48);
-    say_count(t, b"plain judgements that are open:", 49);
-    say_count(t, b"strong judgements that pass:", 53);
-    say_count(t, b"strong judgements that are open:", 54);
-    say_count(t, b"sets that are not open:", 50);
-    say_count(t, b"sets that are open:", 51);
-    say_count(t, b"steps made:", 52);
+    say_count(t, b"plain judgements that pass:", tally::PLAIN_PASS);
+    say_count(t, b"plain judgements that are open:", tally::PLAIN_OPEN);
+    say_count(t, b"strong judgements that pass:", tally::STRONG_PASS);
+    say_count(t, b"strong judgements that are open:", tally::STRONG_OPEN);
+    say_count(t, b"sets that are not open:", tally::SETS_CLOSED);
+    say_count(t, b"sets that are open:", tally::SETS_OPEN);
+    say_count(t, b"steps made:", tally::STEPS_MADE);
     say_refusals(t);
 }
 

@@ -1,5 +1,6 @@
 // Additions to probe sets, the needed shares and the steps of one set, each by both.
 use crate::chance;
+use crate::lists;
 use crate::making::Draft;
 use crate::same;
 use crate::tally;
@@ -101,12 +102,14 @@ pub fn compare_set(t: [u64; 64], g: Draft, order: usize, set: ProbeSet) -> [u64;
     let p = rule::pads(g.s, g.d, g.n, ws, order, set);
     let u = tally::compared(t, tally::NEEDED, same::same_needed(r, own));
     let v = tally::compared(u, tally::STEPS, same::same_padded(p, own));
-    let w = tally::refused(v, own.refusal);
+    let listed = lists::compare_set(v, g, order, set, own);
+    let w = tally::refused(listed, own.refusal);
     if own.refusal != 0 {
         return w;
     }
     let steps = own.len;
-    tally::more(tally::outcome(w, 50, own.undecided), 52, steps as u64)
+    let x = tally::outcome(w, tally::SETS_CLOSED, own.undecided);
+    tally::more(x, tally::STEPS_MADE, steps as u64)
 }
 
 pub fn compare_sets(t: [u64; 64], g: Draft, seed: u64, count: u64) -> [u64; 64] {

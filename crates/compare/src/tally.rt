@@ -24,8 +24,42 @@ pub const EVEN: usize = 10;
 
 pub const LOWER: usize = 11;
 
-// Places 0 to 15: how many of a kind were compared. 16 to 31: how many differ. 32 to 47: how often each refusal was given (0: none).
-// 48 and 49: plain judgements that pass and that are open. 50 and 51: sets not open and open. 52: steps made. 53 and 54: strong judgements.
+pub const LENT_READS: usize = 12;
+
+pub const LENT_SHORT: usize = 13;
+
+pub const LENT_WRITINGS: usize = 14;
+
+pub const LENT_RUNS: usize = 15;
+
+pub const LENT_NEEDED: usize = 16;
+
+pub const LENT_STEPS: usize = 17;
+
+pub const LENT_PLAIN: usize = 18;
+
+pub const LENT_STRONG: usize = 19;
+
+// Places 0 to 19: how many of a kind were compared. 20 to 39: how many of it differ. From 40 on: how often each refusal was given
+// (40: none). From 57 on: answers of each sort, where "not open" stands before "open".
+pub const DIFFER: usize = 20;
+
+pub const REFUSED: usize = 40;
+
+pub const PLAIN_PASS: usize = 57;
+
+pub const PLAIN_OPEN: usize = 58;
+
+pub const SETS_CLOSED: usize = 59;
+
+pub const SETS_OPEN: usize = 60;
+
+pub const STEPS_MADE: usize = 61;
+
+pub const STRONG_PASS: usize = 62;
+
+pub const STRONG_OPEN: usize = 63;
+
 pub fn none() -> [u64; 64] {
     [0; 64]
 }
@@ -51,11 +85,11 @@ pub fn compared(t: [u64; 64], kind: usize, same: bool) -> [u64; 64] {
     if same {
         return u;
     }
-    more(u, std::num::wrapping_add_usize(kind, 16), 1)
+    more(u, std::num::wrapping_add_usize(kind, DIFFER), 1)
 }
 
 pub fn refused(t: [u64; 64], number: u64) -> [u64; 64] {
-    more(t, std::num::wrapping_add_usize(32, number as usize), 1)
+    more(t, std::num::wrapping_add_usize(REFUSED, number as usize), 1)
 }
 
 pub fn outcome(t: [u64; 64], first: usize, is_open: bool) -> [u64; 64] {
@@ -68,8 +102,8 @@ pub fn outcome(t: [u64; 64], first: usize, is_open: bool) -> [u64; 64] {
 // How many answers differ in all.
 pub fn differences(t: [u64; 64]) -> u64 {
     let mut sum = 0;
-    let mut k = 16;
-    while k < 32 {
+    let mut k = DIFFER;
+    while k < REFUSED {
         sum = std::num::wrapping_add_u64(sum, at(t, k));
         k += 1;
     }

@@ -1,32 +1,35 @@
 // Texts read, routines written and run, and the test of refusal 11, each by both.
 use crate::chance;
 use crate::damaging;
+use crate::lists;
 use crate::making;
 use crate::making::Draft;
 use crate::same;
 use crate::tally;
 use document::Ran;
-use document::Read;
 use document::Wire;
 use document::Written;
 use second::running;
 use second::spelling;
+use second::splitting;
 use second::wires;
 
 // ---- reading
 
-fn read_first(text: &[u8], len: usize) -> Read {
-    if len <= text.len() {
-        return reader::read(&text[..len]);
-    }
-    reader::read(text)
+fn compare_whole(t: [u64; 64], kind: usize, text: &[u8]) -> [u64; 64] {
+    let r = reader::read(text);
+    let own = splitting::read(text);
+    let u = tally::compared(t, kind, same::same_read(r, own));
+    let v = lists::compare_read(u, text, own);
+    tally::refused(v, own.refusal)
 }
 
+// The first `len` bytes.
 fn compare_read(t: [u64; 64], kind: usize, text: &[u8], len: usize) -> [u64; 64] {
-    let r = read_first(text, len);
-    let own = spelling::read_first(text, len);
-    let u = tally::compared(t, kind, same::same_read(r, own));
-    tally::refused(u, own.refusal)
+    if len <= text.len() {
+        return compare_whole(t, kind, &text[..len]);
+    }
+    compare_whole(t, kind, text)
 }
 
 fn compare_damaged(t: [u64; 64], text: &[u8], len: usize, seed: u64) -> [u64; 64] {
@@ -91,7 +94,9 @@ fn compare_write(t: [u64; 64], g: Draft, room: usize) -> [u64; 64] {
     let own = spelling::write(g.s, g.d, g.n, ws, &mut y, room);
     let o = r.outcome;
     let same = (same::number(o) == own.refusal) & (r.len == own.len) & same::same_bytes(&x, &y);
-    tally::refused(tally::compared(t, tally::WRITINGS, same), own.refusal)
+    let u = tally::compared(t, tally::WRITINGS, same);
+    let v = lists::compare_write(u, g, room);
+    tally::refused(v, own.refusal)
 }
 
 // Into so many bytes as the text has, one more or one less.
@@ -167,7 +172,9 @@ fn compare_run(t: [u64; 64], g: Draft, seed: u64, room: usize) -> [u64; 64] {
     let same = (same::number(o) == refusal)
         & (r.len == length_of(refusal, g.n))
         & same::same_bytes(&x, &y);
-    tally::refused(tally::compared(t, tally::RUNS, same), refusal)
+    let u = tally::compared(t, tally::RUNS, same);
+    let v = lists::compare_run(u, g, room, shares, randoms, publics);
+    tally::refused(v, refusal)
 }
 
 // Into so many bytes as there are wires, a few more, or one less.
