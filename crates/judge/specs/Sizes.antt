@@ -21,6 +21,7 @@ use Rattle.document.specs.declared.Refusal.the-variants as No
 use Rattle.document.specs.declared.Judged.{Judged}
 use Rattle.document.specs.declared.Wire.{Wire}
 use Rattle.records.specs.Fit.{fit-of}
+use Rattle.rule.specs.Calls.{orderIn}
 use Rattle.cones.specs.Making.{TablesOf}
 use Rattle.cones.specs.Seen.{seeAll, nothing}
 use Rattle.judge.specs.declared.Which.{Which}
@@ -147,13 +148,13 @@ module _ (which : Which) (s d n : ℕ) (ws : List Wire) (t : ℕ) where
   unfolding recordsFit
   fit-parts e = (and-l (leb n (length ws)) (wellFormed R) e, and-r (leb n (length ws)) (wellFormed R) e)
 
-  pub not-order : recordsFit s d n ws ≡ true → (leb 1 t && leb t 4 && ltb t d) ≡ false → judgedNot No.Order ≡ lentJudged (judgementOf which) s d n ws t
-  unfolding lentJudged lent judged orderFits
+  pub not-order : recordsFit s d n ws ≡ true → orderIn d t ≡ false → judgedNot No.Order ≡ lentJudged (judgementOf which) s d n ws t
+  unfolding lentJudged lent judged orderFits orderIn
   not-order e o = let p = fit-parts e in simp (p .0, p .1, o)
 
-  pub judged-answer : recordsFit s d n ws ≡ true → (leb 1 t && leb t 4 && ltb t d) ≡ true → (x : Found) → x ≡ foundUpTo opens (judgementOf which .largest t) n → (r : Judged) → r ≡ answerOf x
+  pub judged-answer : recordsFit s d n ws ≡ true → orderIn d t ≡ true → (x : Found) → x ≡ foundUpTo opens (judgementOf which .largest t) n → (r : Judged) → r ≡ answerOf x
       → r ≡ lentJudged (judgementOf which) s d n ws t
-  unfolding lentJudged lent judged orderFits judgement setsJudged foundUpTo
+  unfolding lentJudged lent judged orderFits orderIn judgement setsJudged foundUpTo
   judged-answer e o x q r a =
       let p = fit-parts e in
       let z = fit-of s d n ws e .sized in
@@ -161,10 +162,9 @@ module _ (which : Which) (s d n : ℕ) (ws : List Wire) (t : ℕ) where
       ∙ answer-is opens 0 (setsInOrder (judgementOf which .largest t) (size R)) ∙ simp (p .0, p .1, o)
 
 -- 12 passed
-pub order-low : (t d : ℕ) → (leb 1 t && leb t 4 && ltb t d) ≡ true → (1 ≤ t) × (t ≤ 4)
-order-low t d e =
-    let p = and-l (leb 1 t && leb t 4) (ltb t d) e in
-    (leb-true 1 t (and-l (leb 1 t) (leb t 4) p), leb-true t 4 (and-r (leb 1 t) (leb t 4) p))
+pub order-low : (d t : ℕ) → orderIn d t ≡ true → 1 ≤ t
+unfolding orderIn
+order-low d t e = leb-true 1 t (and-l (leb 1 t) (leb t 4) (and-l (leb 1 t && leb t 4) (ltb t d) e))
 
 -- the sizes judged are at most four
 pub largest-few : (which : Which) (t : ℕ) → t ≤ 4 → judgementOf which .largest t ≤ 4

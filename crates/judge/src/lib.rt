@@ -5,10 +5,9 @@ use document::Refusal;
 use document::Verdict;
 use document::Wire;
 ghost use mathlib.Core.Path.{_≡_};
-ghost use mathlib.Core.Bool.{true, _&&_};
+ghost use mathlib.Core.Bool.{true};
 ghost use mathlib.Core.List.{_∷_, [], _++_};
 ghost use Prim.Native.Nat.{_+_, _-_, _^_, _≤_, _<_};
-ghost use lib.Dec.{leb, ltb};
 ghost use Rattle.document.specs.Routine.{routineOf, recordsFit};
 ghost use Rattle.document.specs.ProbeSets.{held, setOf};
 ghost use Rattle.document.specs.Judgements.{isOpen, judgedNot, plain, strong};
@@ -370,12 +369,6 @@ fn refusal(f: Refusal) -> Judged
     }
 }
 
-fn order_fits(d: usize, t: usize) -> bool
-    ensures { λ r. ⌜ r ≡ (leb 1 t && leb t 4 && ltb t d) ⌝ }
-{
-    (1 <= t) & (t <= 4) & (t < d)
-}
-
 // The judgement of order t: its verdict with the count, beside the first open set.
 fn judge(which: Which, s: usize, d: usize, n: usize, ws: [Wire; 128], t: usize) -> Judged
     ensures { λ r. ⌜ r ≡ lentJudged (judgementOf which) s d n ws t ⌝ }
@@ -383,7 +376,7 @@ fn judge(which: Which, s: usize, d: usize, n: usize, ws: [Wire; 128], t: usize) 
     if !records::records_fit(s, d, n, ws) {
         return refusal(Refusal::Records);
     }
-    if !order_fits(d, t) {
+    if !rule::order_fits(d, t) {
         return refusal(Refusal::Order);
     }
     answer_of(searched(which, s, d, n, ws, t))

@@ -2,6 +2,7 @@
 use mathlib.Core.Path.{sym, _∙_}
 use borrow.Author.Needs.{needs}
 use borrow.Author.Tests.{not-true, not-false}
+use Rattle.rule.specs.Calls.{order-high}
 use Rattle.judge.specs.Sizes.{not-records, not-order, judged-answer, order-low}
 use Rattle.judge.proofs.judge.Statement.{statement}
 use Rattle.judge.proofs.judge.Tie as tie
@@ -25,7 +26,7 @@ returns-2 : tie.Need-returns-2
 returns-2 c = let s = c .before .before .before .before .before in c .refusal2 .ensures ∙ not-order (s .args .which) (s .args .s) (s .args .d) (s .args .n) (s .args .ws) (s .args .t) (sym (c .before .before .before .before .records-fit .ensures) ∙ not-false _ (c .before .before .before .if1 .left)) (sym (c .before .before .order-fits .ensures) ∙ not-true _ (c .before .if2 .taken))
 
 searched-requires : tie.Need-searched-requires
-searched-requires c κs = let s = c .before .before .before .before in let o = order-low (s .args .t) (s .args .d) (sym (c .before .order-fits .ensures) ∙ not-false _ (c .if2 .left)) in (o .0, o .1, sym (c .before .before .before .records-fit .ensures) ∙ not-false _ (c .before .before .if1 .left))
+searched-requires c κs = let s = c .before .before .before .before in let o = sym (c .before .order-fits .ensures) ∙ not-false _ (c .if2 .left) in (order-low _ _ o, order-high _ _ o, sym (c .before .before .before .records-fit .ensures) ∙ not-false _ (c .before .before .if1 .left))
 
 answer-of-requires : tie.Need-answer-of-requires
 answer-of-requires c κs = search needs
