@@ -25,6 +25,7 @@ use Rattle.cones.specs.Seen.{Seen, seeAll, nothing}
 use Rattle.cones.specs.Spared.{Steady, plain-steady, strong-steady}
 use Rattle.judge.specs.declared.Which.{Which}
 use Rattle.judge.specs.declared.Which.the-variants.{Plain, Strong}
+use Rattle.judge.specs.declared.Question.{Question}
 use Rattle.judge.specs.declared.Grown.{Grown}
 use Rattle.judge.specs.declared.Found.{Found}
 use Rattle.judge.specs.Search.{none, found}
@@ -37,6 +38,18 @@ judgementOf Strong = strong
 pub steady-of : (which : Which) → Steady (judgementOf which)
 steady-of Plain = plain-steady
 steady-of Strong = strong-steady
+
+-- the routine in question
+abbrev pub routineIn : Question → Routine
+routineIn q = routineOf (q .s) (q .d) (q .n) (q .ws)
+
+-- its sets that are open
+abbrev pub opensIn : Question → List ℕ → Bool
+opensIn q = isOpen (judgementOf (q .which)) (routineIn q) (q .t)
+
+-- its records are what a read could have given
+abbrev pub Fits : Question → Type 0
+Fits q = recordsFit (q .s) (q .d) (q .n) (q .ws) ≡ true
 
 -- the words of a growing set
 abbrev pub seenOf : Grown → Seen
@@ -71,8 +84,8 @@ abbrev pub judgedSet : (List ℕ → Bool) → List ℕ → ℕ → Found
 judgedSet opens ps k = cond (opens ps) (found (k + 1) ps) (none (k + 1))
 
 -- no set of fewer than k wires is open
-abbrev pub ClosedBelow : Judgement → Routine → ℕ → ℕ → Type 0
-ClosedBelow J R t k = (qs : List ℕ) → Asc 0 (size R) qs → 0 < length qs → length qs < k → isOpen J R t qs ≡ false
+abbrev pub ClosedBelow : Question → ℕ → Type 0
+ClosedBelow q k = (ps : List ℕ) → Asc 0 (size (routineIn q)) ps → 0 < length ps → length ps < k → opensIn q ps ≡ false
 
 -- a set of ascending wires below `from`, and what is seen of them
 pub record Grows (R : Routine) (from : ℕ) (g : Grown) : Type 0 where
@@ -98,20 +111,20 @@ boundOf Plain ws t ps = t
 boundOf Strong ws t ps = innerOf ws ps
 
 -- a set to be judged: it is whole, and no smaller set is open
-pub record Asked (which : Which) (s d n : ℕ) (ws : List Wire) (t : ℕ) (g : Grown) : Type 0 where
-  pub fits : recordsFit s d n ws ≡ true
-  pub grows : Grows (routineOf s d n ws) n g
-  pub smaller : ClosedBelow (judgementOf which) (routineOf s d n ws) t (g .set .len)
+pub record Asked (q : Question) (g : Grown) : Type 0 where
+  pub fits : Fits q
+  pub grows : Grows (routineIn q) (q .n) g
+  pub smaller : ClosedBelow q (g .set .len)
 
 -- a set to be grown by `places` wires from `from` on, where `count` sets were judged before
-pub record Searching (which : Which) (s d n : ℕ) (ws : List Wire) (t : ℕ) (shares rands own : List ℕ) (places from : ℕ) (g : Grown) (count : ℕ) : Type 0 where
-  pub fits : recordsFit s d n ws ≡ true
-  pub tables : TablesOf s d n ws shares rands own
-  pub below : from ≤ n
+pub record Searching (q : Question) (shares rands own : List ℕ) (places from : ℕ) (g : Grown) (count : ℕ) : Type 0 where
+  pub fits : Fits q
+  pub tables : TablesOf (q .s) (q .d) (q .n) (q .ws) shares rands own
+  pub below : from ≤ q .n
   pub room : g .set .len + places ≤ 4
-  pub grows : Grows (routineOf s d n ws) from g
-  pub smaller : ClosedBelow (judgementOf which) (routineOf s d n ws) t (g .set .len + places)
-  pub counted : count + length (setsOf places (n - from) from) < 2 ^ 63
+  pub grows : Grows (routineIn q) from g
+  pub smaller : ClosedBelow q (g .set .len + places)
+  pub counted : count + length (setsOf places (q .n - from) from) < 2 ^ 63
 
 -- ---- sets as they lie in their four places
 

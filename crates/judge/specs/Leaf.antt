@@ -10,7 +10,7 @@ use lib.Dec.{ltb}
 use lib.ListN.{length, getD, replicate, length-append, length-replicate}
 use lib.Seq.{append-snoc, getD-take, length-take-le}
 use Rattle.document.specs.Basics.{some, Marks}
-use Rattle.document.specs.Routine.{Routine, size, routineOf}
+use Rattle.document.specs.Routine.{Routine, size}
 use Rattle.document.specs.ProbeSets.{held, setOf}
 use Rattle.document.specs.Padding.{probed, bitsOf, neededShares, neededOf}
 use Rattle.document.specs.Judgements.{isOpen}
@@ -18,7 +18,6 @@ use Rattle.document.specs.Laws.Tests.{ltb-false, some-none, Mem}
 use Rattle.document.specs.Laws.Needed.{Asc, asc-low}
 use Rattle.document.specs.Laws.Sound.{Sound}
 use Rattle.document.specs.declared.ProbeSet.{ProbeSet}
-use Rattle.document.specs.declared.Wire.{Wire}
 use Rattle.records.specs.Fit.{fit-of}
 use Rattle.cones.specs.Making.{fit-sound}
 use Rattle.cones.specs.Seen.{Seen, Sees, seeWire, seeAll, nothing, sees-none, sees-more}
@@ -26,9 +25,9 @@ use Rattle.cones.specs.Spared.{own-closed, cones-closed}
 use Rattle.rule.specs.Passes.{LowProbes}
 use Rattle.rule.specs.Words.{onesOf, someOver}
 use Rattle.rule.specs.Run.{neededBy, needed-is}
-use Rattle.judge.specs.declared.Which.{Which}
+use Rattle.judge.specs.declared.Question.{Question}
 use Rattle.judge.specs.declared.Grown.{Grown}
-use Rattle.judge.specs.Growing.{judgementOf, steady-of, seenOf, boundOf, Asked, Holding, held-length, bound-is}
+use Rattle.judge.specs.Growing.{judgementOf, steady-of, routineIn, opensIn, seenOf, boundOf, Asked, Holding, held-length, bound-is}
 
 -- what is seen wire by wire is seen of all
 sees-from : (R : Routine) → Sound R → (qs : List ℕ) (z : Seen) → Sees R qs z → (ps : List ℕ) → ((v : ℕ) → Mem v ps → v < size R) → Sees R (qs ++ ps) (seeAll R z ps)
@@ -47,15 +46,18 @@ place-wire ps v n a h = asc-low 0 n ps (getD ps v 0) a (place-mem ps v h)
     place-mem (p ∷ ps) zero h = inl refl
     place-mem (p ∷ ps) (suc v) h = inr (place-mem ps v (omega arith))
 
-module _ {which : Which} {s d n : ℕ} {ws : List Wire} {t : ℕ} {g : Grown} (A : Asked which s d n ws t g) where
+module _ {q : Question} {g : Grown} (A : Asked q g) where
   abbrev R : Routine
-  R = routineOf s d n ws
+  R = routineIn q
 
   abbrev ps : List ℕ
   ps = held (g .set)
 
-  sized : size R ≡ n
-  sized = fit-of s d n ws (A .fits) .sized
+  sound : Sound R
+  sound = fit-sound (q .s) (q .d) (q .n) (q .ws) (A .fits)
+
+  sized : size R ≡ q .n
+  sized = fit-of (q .s) (q .d) (q .n) (q .ws) (A .fits) .sized
 
   ascends : Asc 0 (size R) ps
   ascends = subst (λ (m : ℕ). Asc 0 m ps) (sym sized) (A .grows .ascends)
@@ -65,36 +67,36 @@ module _ {which : Which} {s d n : ℕ} {ws : List Wire} {t : ℕ} {g : Grown} (A
 
   sees : Sees R ps (seenOf g)
   sees = subst (λ (z : Seen). Sees R ps z) (sym (A .grows .seen))
-      (sees-from R (fit-sound s d n ws (A .fits)) [] nothing (sees-none R) ps (λ v m. asc-low 0 (size R) ps v ascends m))
+      (sees-from R sound [] nothing (sees-none R) ps (λ v m. asc-low 0 (size R) ps v ascends m))
 
   -- the wires of the set stand among the records
-  pub holding : Holding n ws (g .set)
+  pub holding : Holding (q .n) (q .ws) (g .set)
   unfolding setOf
   holding = record {
     four = A .grows .few;
     sized = ap (λ (x : ProbeSet). length (x .places)) (A .grows .whole) ∙ length-take-le 4 (ps ++ replicate 4 0) (let a = length-append ps (replicate 4 0) in let b : length {A = ℕ} (replicate 4 0) ≡ 4 = length-replicate {A = ℕ} 4 0 in omega arith);
-    few = fit-of s d n ws (A .fits) .few;
-    wires = λ v h. let l = long in let z = place-wire ps v n (A .grows .ascends) (omega arith) in subst (λ (x : ℕ). x < n) (getD-take (g .set .len) (g .set .places) v 0 h) z;
+    few = fit-of (q .s) (q .d) (q .n) (q .ws) (A .fits) .few;
+    wires = λ v h. let l = long in let z = place-wire ps v (q .n) (A .grows .ascends) (omega arith) in subst (λ (x : ℕ). x < q .n) (getD-take (g .set .len) (g .set .places) v 0 h) z;
   }
 
   pub low-probes : LowProbes (g .set)
   low-probes = let h = holding in record { at-most = h .four; low-at = λ v l. let a = h .wires v l in let b = h .few in omega arith }
 
-  pub own-open : g .own ≢ 0 → isOpen (judgementOf which) R t ps ≡ false
-  own-open h = own-closed (judgementOf which) (steady-of which) R (fit-sound s d n ws (A .fits)) t ps ascends (seenOf g) sees h
+  pub own-open : g .own ≢ 0 → opensIn q ps ≡ false
+  own-open h = own-closed (judgementOf (q .which)) (steady-of (q .which)) R sound (q .t) ps ascends (seenOf g) sees h
       (λ qs a p l. A .smaller qs a p (let z = long in omega arith))
 
-  bound-of : (b : ℕ) → b ≡ boundOf which ws t ps → b ≡ judgementOf which .bound R t ps
-  bound-of b e = e ∙ bound-is which s d n ws t ps (A .grows .ascends)
+  bound-of : (b : ℕ) → b ≡ boundOf (q .which) (q .ws) (q .t) ps → b ≡ judgementOf (q .which) .bound R (q .t) ps
+  bound-of b e = e ∙ bound-is (q .which) (q .s) (q .d) (q .n) (q .ws) (q .t) ps (A .grows .ascends)
 
-  pub cones-open : (b : ℕ) → b ≡ boundOf which ws t ps → g .shares < 2 ^ 64 → someOver s d (g .shares) b ≡ false → isOpen (judgementOf which) R t ps ≡ false
+  pub cones-open : (b : ℕ) → b ≡ boundOf (q .which) (q .ws) (q .t) ps → g .shares < 2 ^ 64 → someOver (q .s) (q .d) (g .shares) b ≡ false → opensIn q ps ≡ false
   unfolding someOver onesOf bitsOf
-  cones-open b e small o = cones-closed (judgementOf which) (steady-of which) R (fit-sound s d n ws (A .fits)) t ps ascends (seenOf g) sees small
-      (λ i i<S. let z = ltb-false b (ones (g .shares / 2 ^ (i * d) % 2 ^ d)) (some-none s _ o i i<S) in let y = bound-of b e in omega arith)
+  cones-open b e small o = cones-closed (judgementOf (q .which)) (steady-of (q .which)) R sound (q .t) ps ascends (seenOf g) sees small
+      (λ i i<S. let z = ltb-false b (ones (g .shares / 2 ^ (i * q .d) % 2 ^ q .d)) (some-none (q .s) _ o i i<S) in let y = bound-of b e in omega arith)
 
-  pub run-open : (b word : ℕ) (probe : Marks) → b ≡ boundOf which ws t ps → probe ≡ probed ps → word ≡ neededBy R probe → someOver s d word b ≡ isOpen (judgementOf which) R t ps
+  pub run-open : (b word : ℕ) (probe : Marks) → b ≡ boundOf (q .which) (q .ws) (q .t) ps → probe ≡ probed ps → word ≡ neededBy R probe → someOver (q .s) (q .d) word b ≡ opensIn q ps
   unfolding someOver onesOf isOpen neededOf bitsOf
-  run-open b word probe e q u =
-      let w : word ≡ neededShares R ps = u ∙ ap (neededBy R) q ∙ needed-is R ps in
-      ap₂ (λ (c v : ℕ). some s (λ i. ltb c (ones (v / 2 ^ (i * d) % 2 ^ d)))) (bound-of b e) w
-      ∙ ap (λ (qs : List ℕ). some s (λ i. ltb (judgementOf which .bound R t ps) (neededOf R qs i))) (sym (steady-of which .watches R ps))
+  run-open b word probe e m u =
+      let w : word ≡ neededShares R ps = u ∙ ap (neededBy R) m ∙ needed-is R ps in
+      ap₂ (λ (c v : ℕ). some (q .s) (λ i. ltb c (ones (v / 2 ^ (i * q .d) % 2 ^ q .d)))) (bound-of b e) w
+      ∙ ap (λ (qs : List ℕ). some (q .s) (λ i. ltb (judgementOf (q .which) .bound R (q .t) ps) (neededOf R qs i))) (sym (steady-of (q .which) .watches R ps))

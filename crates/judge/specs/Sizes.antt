@@ -10,7 +10,7 @@ use native.Mathlib.Omega.{arith}
 use lib.Dec.{leb, ltb}
 use lib.ListN.{length, length-append}
 use Rattle.document.specs.Routine.{Routine, size, wellFormed, routineOf, recordsFit}
-use Rattle.document.specs.ProbeSets.{setOf}
+use Rattle.document.specs.ProbeSets.{held, setOf}
 use Rattle.document.specs.Judgements.{plain, strong, isOpen, setsOf, setsInOrder, setsJudged, judgement, orderFits, judgedNot, judged}
 use Rattle.document.specs.Lent.{lent, lentJudged}
 use Rattle.document.specs.Laws.Tests.{clash, bool-cases, and-l, and-r, leb-true}
@@ -26,9 +26,11 @@ use Rattle.cones.specs.Making.{TablesOf}
 use Rattle.cones.specs.Seen.{seeAll, nothing}
 use Rattle.judge.specs.declared.Which.{Which}
 use Rattle.judge.specs.declared.Which.the-variants.{Plain, Strong}
+use Rattle.judge.specs.declared.Question.{Question}
 use Rattle.judge.specs.declared.Found.{Found}
+use Rattle.judge.specs.declared.Grown.{Grown}
 use Rattle.judge.specs.Search.{none, found, search, answerOf, answer-is, onFrom, search-append, grow, grow-sets, sets-few}
-use Rattle.judge.specs.Growing.{judgementOf, nothingGrown, ClosedBelow, Searching}
+use Rattle.judge.specs.Growing.{judgementOf, routineIn, opensIn, Fits, nothingGrown, ClosedBelow, Searching}
 
 -- ---- how many sets there are
 
@@ -109,34 +111,38 @@ module _ (opens : List ℕ → Bool) where
 
 -- ---- a search of one size
 
+-- where no set of 1 to k wires is open, no set of fewer than k + 1 is
+closed-below : (q : Question) (k : ℕ) → size (routineIn q) ≡ q .n → foundUpTo (opensIn q) k (q .n) .hit ≡ false → ClosedBelow q (k + 1)
+unfolding foundUpTo
+closed-below q k e f ps a p l = search-closed (opensIn q) 0 (setsInOrder k (q .n)) f ps (sets← k (q .n) ps (subst (λ (m : ℕ). Asc 0 m ps) e a) p (omega arith))
+
+-- x is what is found among the sets of 1 to k wires, and the next size grows from g
+module _ (q : Question) (k : ℕ) (x : Found) (e : x ≡ foundUpTo (opensIn q) k (q .n)) (f : x .hit ≡ false) (g : Grown) (b : g ≡ nothingGrown) where
+  pub size-asked : Fits q → (shares rands own : List ℕ) → TablesOf (q .s) (q .d) (q .n) (q .ws) shares rands own → k < 4 → Searching q shares rands own (k + 1) 0 g (x .count)
+  unfolding setOf seeAll
+  size-asked fit shares rands own tables h =
+      let fi = fit-of (q .s) (q .d) (q .n) (q .ws) fit in
+      subst (λ (y : Grown). Searching q shares rands own (k + 1) 0 y (x .count)) (sym b) (record {
+        fits = fit;
+        tables = tables;
+        below = omega arith;
+        room = omega arith;
+        grows = record { whole = refl; few = omega arith; ascends = tt; seen = refl };
+        smaller = λ qs a p l. closed-below q k (fi .sized) (sym (ap (λ (w : Found). w .hit) e) ∙ f) qs a p (omega arith);
+        counted = found-few (opensIn q) k (q .n) x e f h (fi .few);
+      })
+
+  pub size-found : (y : Found) → y ≡ grow (opensIn q) (k + 1) (q .n - 0) 0 (held (g .set)) (x .count) → y ≡ foundUpTo (opensIn q) (k + 1) (q .n)
+  size-found y u = found-more (opensIn q) k (q .n) x y e f (u ∙ ap (λ (z : Grown). grow (opensIn q) (k + 1) (q .n - 0) 0 (held (z .set)) (x .count)) b)
+
+-- ---- the answer
+
 module _ (which : Which) (s d n : ℕ) (ws : List Wire) (t : ℕ) where
   abbrev R : Routine
   R = routineOf s d n ws
 
   abbrev opens : List ℕ → Bool
   opens = isOpen (judgementOf which) R t
-
-  -- where no set of 1 to k wires is open, no set of fewer than k + 1 is
-  closed-below : (k : ℕ) → size R ≡ n → foundUpTo opens k n .hit ≡ false → ClosedBelow (judgementOf which) R t (k + 1)
-  unfolding foundUpTo
-  closed-below k e f qs a p l = search-closed opens 0 (setsInOrder k n) f qs (sets← k n qs (subst (λ (m : ℕ). Asc 0 m qs) e a) p (omega arith))
-
-  pub size-asked : recordsFit s d n ws ≡ true → (shares rands own : List ℕ) → TablesOf s d n ws shares rands own → (k : ℕ) → k < 4 → (x : Found) → x ≡ foundUpTo opens k n → x .hit ≡ false
-      → Searching which s d n ws t shares rands own (k + 1) 0 nothingGrown (x .count)
-  unfolding setOf seeAll
-  size-asked fit shares rands own tables k h x e f =
-      let fi = fit-of s d n ws fit in
-      record {
-        fits = fit;
-        tables = tables;
-        below = omega arith;
-        room = omega arith;
-        grows = record { whole = refl; few = omega arith; ascends = tt; seen = refl };
-        smaller = λ qs a p l. closed-below k (fi .sized) (sym (ap (λ (w : Found). w .hit) e) ∙ f) qs a p (omega arith);
-        counted = found-few opens k n x e f h (fi .few);
-      }
-
-  -- ---- the answer
 
   pub not-records : recordsFit s d n ws ≡ false → judgedNot No.Records ≡ lentJudged (judgementOf which) s d n ws t
   unfolding lentJudged lent judged recordsFit

@@ -3,39 +3,37 @@ use mathlib.Core.Path.{_≡_, refl, sym, ap, ap₂, _∙_, subst}
 use mathlib.Core.Bool.{Bool, true, false, cond}
 use mathlib.Core.List.{List, [], _∷_, _++_, map}
 use Prim.Native.Nat.{ℕ, zero, suc, _+_, _-_, _*_, _^_, _≤_, _<_}
-use native.Mathlib.Nat.{lt-irrefl, suc-mul, mul-suc, mul-le-mul-left}
+use native.Mathlib.Nat.{lt-irrefl, mul-suc, mul-le-mul-left, mul-le-mul-right}
 use native.Mathlib.Numerals.{add-one, sub-one}
 use native.Mathlib.Omega.{arith}
 use lib.ListN.{length, getD, take, length-append, length-map}
 use lib.Seq.{getD-take}
-use Rattle.document.specs.Routine.{Routine, size, routineOf}
+use Rattle.document.specs.Routine.{Routine, size}
 use Rattle.document.specs.ProbeSets.{held, setOf}
 use Rattle.document.specs.Judgements.{setsOf}
 use Rattle.document.specs.Laws.Needed.{Asc}
-use Rattle.document.specs.declared.Wire.{Wire}
 use Rattle.records.specs.Fit.{fit-of}
 use Rattle.cones.specs.Tables.{shareCones, randCones, ownRands}
 use Rattle.cones.specs.Seen.{Seen, see, seeWire, seeAll, nothing, see-more}
-use Rattle.judge.specs.declared.Which.{Which}
+use Rattle.judge.specs.declared.Question.{Question}
 use Rattle.judge.specs.declared.Found.{Found}
 use Rattle.judge.specs.declared.Grown.{Grown}
 use Rattle.judge.specs.Search.{none, found, search, onFrom, grow, grow-is}
-use Rattle.judge.specs.Growing.{seenOf, grownBy, judgedSet, Asked, Searching, held-of, held-length}
+use Rattle.judge.specs.Growing.{routineIn, seenOf, grownBy, judgedSet, Asked, Searching, held-of, held-length}
 
 -- ---- the measure: places left times wires left
 
-pub falls-both : (p n f a : ℕ) → 0 < p → f ≤ a → a < n → (p - 1) * (n - (a + 1)) < p * (n - f)
-falls-both zero n f a h k l = absurd (lt-irrefl 0 h)
-falls-both (suc p) n f a h k l = rw sub-one (go (n - f) (n - (a + 1)) (omega arith))
-  where
-    go : (w v : ℕ) → v < w → p * v < suc p * w
-    go w v e = let m : p * v ≤ p * w = mul-le-mul-left p (omega arith) in rw suc-mul (omega arith)
+less-wires : (p w v : ℕ) → 0 < p → v < w → p * v < p * w
+less-wires p w v h e = let m : p * suc v ≤ p * w = mul-le-mul-left p e in let q = mul-suc p v in omega arith
 
-pub falls-wires : (p n f a : ℕ) → 0 < p → f ≤ a → a < n → p * (n - (a + 1)) < p * (n - f)
-falls-wires p n f a h k l = go (n - f) (n - (a + 1)) (omega arith)
-  where
-    go : (w v : ℕ) → v < w → p * v < p * w
-    go w v e = let m : p * suc v ≤ p * w = mul-le-mul-left p e in let q = mul-suc p v in omega arith
+pub falls-wires : (p n f a t : ℕ) → p * (n - f) ≡ t → 0 < p → f ≤ a → a < n → p * (n - (a + 1)) < t
+falls-wires p n f a t e h k l = let z = less-wires p (n - f) (n - (a + 1)) h (omega arith) in omega arith
+
+pub falls-both : (p n f a t : ℕ) → p * (n - f) ≡ t → 0 < p → f ≤ a → a < n → (p - 1) * (n - (a + 1)) < t
+falls-both p n f a t e h k l =
+    let y : (p - 1) * (n - (a + 1)) ≤ p * (n - (a + 1)) = mul-le-mul-right (n - (a + 1)) (omega arith) in
+    let z = falls-wires p n f a t e h k l in
+    omega arith
 
 -- ---- the search, turn by turn
 
@@ -112,18 +110,20 @@ asc-last lo k (p ∷ ps) h a = let z = a .1 in (a .0, omega arith, asc-last (suc
 
 -- ---- a set to be grown
 
-module _ {which : Which} {s d n : ℕ} {ws : List Wire} {t : ℕ} {shares rands own : List ℕ} {places from : ℕ} {g : Grown} {count : ℕ}
-    (S : Searching which s d n ws t shares rands own places from g count) where
+module _ {q : Question} {shares rands own : List ℕ} {places from : ℕ} {g : Grown} {count : ℕ} (S : Searching q shares rands own places from g count) where
   abbrev R : Routine
-  R = routineOf s d n ws
+  R = routineIn q
+
+  abbrev n : ℕ
+  n = q .n
 
   sized : size R ≡ n
-  sized = fit-of s d n ws (S .fits) .sized
+  sized = fit-of (q .s) (q .d) n (q .ws) (S .fits) .sized
 
   pub few-wires : n ≤ 128
-  few-wires = fit-of s d n ws (S .fits) .few
+  few-wires = fit-of (q .s) (q .d) n (q .ws) (S .fits) .few
 
-  pub leaf-asked : places ≡ 0 → Asked which s d n ws t g
+  pub leaf-asked : places ≡ 0 → Asked q g
   leaf-asked e = record {
     fits = S .fits;
     grows = record { whole = S .grows .whole; few = S .grows .few; ascends = asc-up 0 from n (held (g .set)) (S .below) (S .grows .ascends); seen = S .grows .seen };
@@ -148,9 +148,9 @@ module _ {which : Which} {s d n : ℕ} {ws : List Wire} {t : ℕ} {shares rands 
   seen-grown : from < n → (share rand o : ℕ) → share ≡ getD shares from 0 → rand ≡ getD rands from 0 → o ≡ getD own from 0
       → seenOf (grownBy g from share rand o) ≡ seeAll R nothing (held (g .set) ++ (from ∷ []))
   unfolding grownBy see seeWire
-  seen-grown h share rand o p q r =
-      ap₂ (λ (x y : ℕ). see (seenOf g) x y o) (p ∙ table-at shares (shareCones R) (S .tables .shares-are) h) (q ∙ table-at rands (randCones R) (S .tables .rands-are) h)
-      ∙ ap (λ (x : ℕ). see (seenOf g) (getD (shareCones R (size R)) from 0) (getD (randCones R (size R)) from 0) x) (r ∙ table-at own (ownRands R) (S .tables .own-are) h)
+  seen-grown h share rand o p r m =
+      ap₂ (λ (x y : ℕ). see (seenOf g) x y o) (p ∙ table-at shares (shareCones R) (S .tables .shares-are) h) (r ∙ table-at rands (randCones R) (S .tables .rands-are) h)
+      ∙ ap (λ (x : ℕ). see (seenOf g) (getD (shareCones R (size R)) from 0) (getD (randCones R (size R)) from 0) x) (m ∙ table-at own (ownRands R) (S .tables .own-are) h)
       ∙ ap (λ (z : Seen). seeWire R z from) (S .grows .seen)
       ∙ sym (see-more R nothing (held (g .set)) from)
 
@@ -164,14 +164,14 @@ module _ {which : Which} {s d n : ℕ} {ws : List Wire} {t : ℕ} {shares rands 
 
   -- with the next wire
   pub taken : 0 < places → from < n → (share rand o : ℕ) → share ≡ getD shares from 0 → rand ≡ getD rands from 0 → o ≡ getD own from 0 → (more : Grown) → more ≡ grownBy g from share rand o
-      → Searching which s d n ws t shares rands own (places - 1) (from + 1) more count
-  taken h l share rand o p q r more e =
+      → Searching q shares rands own (places - 1) (from + 1) more count
+  taken h l share rand o p r m more e =
       let len = grown-len share rand o in
       let room = S .room in
       let counted = S .counted in
       let on = sets-on places n from h l in
       let hg = held-grown h share rand o in
-      subst (λ (x : Grown). Searching which s d n ws t shares rands own (places - 1) (from + 1) x count) (sym e) (record {
+      subst (λ (x : Grown). Searching q shares rands own (places - 1) (from + 1) x count) (sym e) (record {
         fits = S .fits;
         tables = S .tables;
         below = omega arith;
@@ -180,14 +180,14 @@ module _ {which : Which} {s d n : ℕ} {ws : List Wire} {t : ℕ} {shares rands 
           whole = grown-whole h share rand o;
           few = omega arith;
           ascends = subst (λ (ps : List ℕ). Asc 0 (from + 1) ps) (sym hg) (asc-last 0 from (held (g .set)) (omega arith) (S .grows .ascends));
-          seen = seen-grown l share rand o p q r ∙ ap (λ (ps : List ℕ). seeAll R nothing ps) (sym hg);
+          seen = seen-grown l share rand o p r m ∙ ap (λ (ps : List ℕ). seeAll R nothing ps) (sym hg);
         };
         smaller = λ qs a b c. S .smaller qs a b (omega arith);
         counted = omega arith;
       })
 
   -- with the next wire passed over
-  pub passed-over : 0 < places → from < n → (k : ℕ) → k ≤ count + length (setsOf (places - 1) (n - (from + 1)) (from + 1)) → Searching which s d n ws t shares rands own places (from + 1) g k
+  pub passed-over : 0 < places → from < n → (k : ℕ) → k ≤ count + length (setsOf (places - 1) (n - (from + 1)) (from + 1)) → Searching q shares rands own places (from + 1) g k
   passed-over h l k c =
       let counted = S .counted in
       let on = sets-on places n from h l in

@@ -5,22 +5,31 @@ use document::Refusal;
 use document::Verdict;
 use document::Wire;
 ghost use mathlib.Core.Path.{_≡_};
-ghost use mathlib.Core.Bool.{true};
 ghost use mathlib.Core.List.{_∷_, [], _++_};
 ghost use Prim.Native.Nat.{_+_, _-_, _^_, _≤_, _<_};
-ghost use Rattle.document.specs.Routine.{routineOf, recordsFit};
 ghost use Rattle.document.specs.ProbeSets.{held, setOf};
-ghost use Rattle.document.specs.Judgements.{isOpen, judgedNot, plain, strong};
+ghost use Rattle.document.specs.Judgements.{judgedNot, plain, strong};
 ghost use Rattle.document.specs.Lent.{lentJudged};
 ghost use Rattle.cones.specs.Making.{TablesOf};
 ghost use Rattle.judge.specs.Search.{none, answerOf, grow};
-ghost use Rattle.judge.specs.Growing.{judgementOf, nothingGrown, ownWith, grownBy, Skipped, judgedSet, Holding, innerOf, boundOf, Asked, Searching};
+ghost use Rattle.judge.specs.Growing.{judgementOf, opensIn, Fits, nothingGrown, ownWith, grownBy, Skipped, judgedSet, Holding, innerOf, boundOf, Asked, Searching};
 ghost use Rattle.judge.specs.Sizes.{foundUpTo};
 
 // Which of the two judgements.
 pub enum Which {
     Plain,
     Strong,
+}
+
+// What a search goes by from its first set to its last: the judgement, the routine's records and the order.
+// Its tables are lent beside it, because a function over a struct that holds references is proved by hand.
+pub struct Question {
+    pub which: Which,
+    pub s: usize,
+    pub d: usize,
+    pub n: usize,
+    pub ws: [Wire; 128],
+    pub t: usize,
 }
 
 // What a search found: whether an open set, how many sets were judged, and the open set (empty if none).
@@ -127,14 +136,15 @@ fn next_wire(
     w
 }
 
-// The sets of 1 to this many wires are judged at order t.
-fn largest(which: Which, t: usize) -> usize
-    requires { ⌜ 1 ≤ t ⌝ }
-    ensures { λ r. ⌜ r ≡ judgementOf which .largest t ⌝ }
+// The sets of 1 to this many wires are judged.
+fn largest(q: Question) -> usize
+    requires { ⌜ 1 ≤ q .t ⌝ }
+    ensures { λ r. ⌜ r ≡ judgementOf (q .which) .largest (q .t) ⌝ }
 {
+    let which = q.which;
     match which {
-        Which::Plain => t,
-        Which::Strong => t - 1,
+        Which::Plain => q.t,
+        Which::Strong => q.t - 1,
     }
 }
 
@@ -158,49 +168,45 @@ fn inner_of(n: usize, ws: [Wire; 128], set: ProbeSet) -> usize
 }
 
 // What the needed shares of a secret may not exceed.
-fn bound_of(which: Which, t: usize, n: usize, ws: [Wire; 128], set: ProbeSet) -> usize
-    requires { ⌜ Holding n ws set ⌝ }
-    ensures { λ r. ⌜ r ≡ boundOf which ws t (held set) ⌝ }
+fn bound_of(q: Question, set: ProbeSet) -> usize
+    requires { ⌜ Holding (q .n) (q .ws) set ⌝ }
+    ensures { λ r. ⌜ r ≡ boundOf (q .which) (q .ws) (q .t) (held set) ⌝ }
 {
+    let which = q.which;
     match which {
-        Which::Plain => t,
-        Which::Strong => inner_of(n, ws, set),
+        Which::Plain => q.t,
+        Which::Strong => {
+            let ws = q.ws;
+            inner_of(q.n, ws, set)
+        }
     }
 }
 
 // The set is open. One with an own random is not, where no smaller set is; nor is one whose cones hold no more than the bound. Only the rest is run.
-fn set_open(which: Which, s: usize, d: usize, n: usize, ws: [Wire; 128], t: usize, g: Grown) -> bool
-    requires { ⌜ Asked which s d n ws t g ⌝ }
-    ensures { λ r. ⌜ r ≡ isOpen (judgementOf which) (routineOf s d n ws) t (held (g .set)) ⌝ }
+fn set_open(q: Question, g: Grown) -> bool
+    requires { ⌜ Asked q g ⌝ }
+    ensures { λ r. ⌜ r ≡ opensIn q (held (g .set)) ⌝ }
 {
     if g.own != 0 {
         return false;
     }
     let set = g.set;
-    let bound = bound_of(which, t, n, ws, set);
-    if !rule::over(s, d, g.shares, bound) {
+    let bound = bound_of(q, set);
+    if !rule::over(q.s, q.d, g.shares, bound) {
         return false;
     }
+    let ws = q.ws;
     let probe = rule::probe_marks(set);
-    let needed = rule::needed_word(s, d, n, ws, probe);
-    rule::over(s, d, needed, bound)
+    let needed = rule::needed_word(q.s, q.d, q.n, ws, probe);
+    rule::over(q.s, q.d, needed, bound)
 }
 
 // The grown set judged, as one set more.
-fn judge_set(
-    which: Which,
-    s: usize,
-    d: usize,
-    n: usize,
-    ws: [Wire; 128],
-    t: usize,
-    g: Grown,
-    count: u64,
-) -> Found
-    requires { ⌜ Asked which s d n ws t g × (count + 1 < 2 ^ 63) ⌝ }
-    ensures { λ r. ⌜ r ≡ judgedSet (isOpen (judgementOf which) (routineOf s d n ws) t) (held (g .set)) count ⌝ }
+fn judge_set(q: Question, g: Grown, count: u64) -> Found
+    requires { ⌜ Asked q g × (count + 1 < 2 ^ 63) ⌝ }
+    ensures { λ r. ⌜ r ≡ judgedSet (opensIn q) (held (g .set)) count ⌝ }
 {
-    if !set_open(which, s, d, n, ws, t, g) {
+    if !set_open(q, g) {
         return nothing_found(count + 1);
     }
     let set = g.set;
@@ -215,99 +221,50 @@ fn judge_set(
 fn grow(
     places: usize,
     from: usize,
-    n: usize,
-    which: Which,
-    s: usize,
-    d: usize,
-    ws: [Wire; 128],
-    t: usize,
+    q: Question,
     shares: &[u64; 128],
     rands: &[u64; 128],
     own: &[u64; 128],
     g: Grown,
     count: u64,
 ) -> Found
-    requires { ⌜ Searching which s d n ws t (now shares) (now rands) (now own) places from g count ⌝ }
-    ensures { λ r. ⌜ r ≡ grow (isOpen (judgementOf which) (routineOf s d n ws) t) places (n - from) from (held (g .set)) count ⌝ }
+    requires { ⌜ Searching q (now shares) (now rands) (now own) places from g count ⌝ }
+    ensures { λ r. ⌜ r ≡ grow (opensIn q) places (q .n - from) from (held (g .set)) count ⌝ }
 {
     if places == 0 {
-        return judge_set(which, s, d, n, ws, t, g, count);
+        return judge_set(q, g, count);
     }
-    let at = next_wire(places, from, n, rands, own, g);
+    let at = next_wire(places, from, q.n, rands, own, g);
     let judged = count + (at - from) as u64;
-    if n <= at {
+    if q.n <= at {
         return nothing_found(judged);
     }
+    let fewer = places - 1;
+    let next = at + 1;
     let more = grown_by(g, at, shares[at], rands[at], own[at]);
-    let found = grow(
-        places - 1,
-        at + 1,
-        n,
-        which,
-        s,
-        d,
-        ws,
-        t,
-        shares,
-        rands,
-        own,
-        more,
-        judged,
-    );
+    let found = grow(fewer, next, q, shares, rands, own, more, judged);
     if found.hit {
         return found;
     }
-    grow(
-        places,
-        at + 1,
-        n,
-        which,
-        s,
-        d,
-        ws,
-        t,
-        shares,
-        rands,
-        own,
-        g,
-        found.count,
-    )
+    grow(places, next, q, shares, rands, own, g, found.count)
 }
 
 // What is found among the sets of 1 to `top` wires, size after size.
 fn search_sizes(
     top: usize,
-    n: usize,
-    which: Which,
-    s: usize,
-    d: usize,
-    ws: [Wire; 128],
-    t: usize,
+    q: Question,
     shares: &[u64; 128],
     rands: &[u64; 128],
     own: &[u64; 128],
 ) -> Found
-    requires { ⌜ (top ≤ 4) × (recordsFit s d n ws ≡ true) × TablesOf s d n ws (now shares) (now rands) (now own) ⌝ }
-    ensures { λ r. ⌜ r ≡ foundUpTo (isOpen (judgementOf which) (routineOf s d n ws) t) top n ⌝ }
+    requires { ⌜ (top ≤ 4) × Fits q × TablesOf (q .s) (q .d) (q .n) (q .ws) (now shares) (now rands) (now own) ⌝ }
+    ensures { λ r. ⌜ r ≡ foundUpTo (opensIn q) top (q .n) ⌝ }
 {
     let mut found = nothing_found(0);
     let mut size = 0;
     while size < top {
-        let next = grow(
-            size + 1,
-            0,
-            n,
-            which,
-            s,
-            d,
-            ws,
-            t,
-            shares,
-            rands,
-            own,
-            nothing_grown(),
-            found.count,
-        );
+        let nothing = nothing_grown();
+        let next = grow(size + 1, 0, q, shares, rands, own, nothing, found.count);
         if next.hit {
             return next;
         }
@@ -318,26 +275,16 @@ fn search_sizes(
 }
 
 // What is found among the sets of a judgement.
-fn searched(which: Which, s: usize, d: usize, n: usize, ws: [Wire; 128], t: usize) -> Found
-    requires { ⌜ (1 ≤ t) × (t ≤ 4) × (recordsFit s d n ws ≡ true) ⌝ }
-    ensures { λ r. ⌜ r ≡ foundUpTo (isOpen (judgementOf which) (routineOf s d n ws) t) (judgementOf which .largest t) n ⌝ }
+fn searched(q: Question) -> Found
+    requires { ⌜ (1 ≤ q .t) × (q .t ≤ 4) × Fits q ⌝ }
+    ensures { λ r. ⌜ r ≡ foundUpTo (opensIn q) (judgementOf (q .which) .largest (q .t)) (q .n) ⌝ }
 {
-    let tables = cones::tables_of(s, d, n, ws);
+    let ws = q.ws;
+    let tables = cones::tables_of(q.s, q.d, q.n, ws);
     let shares = tables.shares;
     let rands = tables.rands;
     let own = tables.own;
-    search_sizes(
-        largest(which, t),
-        n,
-        which,
-        s,
-        d,
-        ws,
-        t,
-        &shares,
-        &rands,
-        &own,
-    )
+    search_sizes(largest(q), q, &shares, &rands, &own)
 }
 
 fn answer_of(found: Found) -> Judged
@@ -379,7 +326,15 @@ fn judge(which: Which, s: usize, d: usize, n: usize, ws: [Wire; 128], t: usize) 
     if !rule::order_fits(d, t) {
         return refusal(Refusal::Order);
     }
-    answer_of(searched(which, s, d, n, ws, t))
+    let q = Question {
+        which,
+        s,
+        d,
+        n,
+        ws,
+        t,
+    };
+    answer_of(searched(q))
 }
 
 // The plain judgement of order t.

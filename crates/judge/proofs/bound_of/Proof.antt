@@ -20,7 +20,7 @@ returns : tie.Need-returns
 returns c = search needs
 
 returns-2 : tie.Need-returns-2
-returns-2 c = let s = c .before .before .before in c .inner-of .ensures ∙ sym (ap (λ (k : Which). boundOf k (s .args .ws) (s .args .t) (held (s .args .set))) (c .before .enum-told2 .given .1))
+returns-2 c = let s = c .before .before .before .before in c .inner-of .ensures ∙ sym (ap (λ (k : Which). boundOf k (s .args .q .ws) (s .args .q .t) (held (s .args .set))) (c .before .before .enum-told2 .given .1))
 
 pub bound-of-spec : {M : Type 1} → statement M
 bound-of-spec = tie.close (tie.spec enum-told enum-told-2 inner-of-requires returns returns-2)

@@ -23,8 +23,8 @@ nothing-found-requires c κs = search needs
 returns : tie.Need-returns
 returns c = let s = c .before .before .before in c .nothing-found .ensures ∙ sym (cond-false (found (s .args .count + 1) (held (s .args .g .set))) (none (s .args .count + 1)) (sym (c .before .before .set-open .ensures) ∙ not-true _ (c .before .if1 .taken)))
 
-add-t13 : tie.Need-add-t13
-add-t13 c = search needs
+add-t8 : tie.Need-add-t8
+add-t8 c = search needs
 
 returns-2 : tie.Need-returns-2
 returns-2 c = let s = c .before .before .before in ap (λ (x : ProbeSet). record { hit = true; count = s .args .count + 1; set = x }) (s .pre .0 .grows .whole) ∙ sym (cond-true (found (s .args .count + 1) (held (s .args .g .set))) (none (s .args .count + 1)) (sym (c .before .before .set-open .ensures) ∙ not-false _ (c .before .if1 .left)))
@@ -32,4 +32,4 @@ returns-2 c = let s = c .before .before .before in ap (λ (x : ProbeSet). record
 pub judge-set-spec : {M : Type 1} → statement M
 judge-set-spec =
     tie.close
-    (tie.spec set-open-requires add-nothing-found nothing-found-requires returns add-t13 returns-2)
+    (tie.spec set-open-requires add-nothing-found nothing-found-requires returns add-t8 returns-2)

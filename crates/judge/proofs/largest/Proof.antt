@@ -19,7 +19,7 @@ returns : tie.Need-returns
 returns c = search needs
 
 returns-2 : tie.Need-returns-2
-returns-2 c = sym (ap (λ (k : Which). judgementOf k .largest (c .before .before .args .t)) (c .enum-told2 .given .1))
+returns-2 c = sym (ap (λ (k : Which). judgementOf k .largest (c .before .before .before .args .q .t)) (c .before .enum-told2 .given .1))
 
 pub largest-spec : {M : Type 1} → statement M
 largest-spec = tie.close (tie.spec enum-told enum-told-2 sub-result returns returns-2)

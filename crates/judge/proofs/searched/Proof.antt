@@ -2,9 +2,7 @@
 use mathlib.Core.Path.{ap, _∙_, subst, sym}
 use Prim.Native.Nat.{ℕ, _≤_}
 use borrow.Author.Needs.{needs}
-use Rattle.document.specs.Judgements.{isOpen}
-use Rattle.document.specs.Routine.{routineOf}
-use Rattle.judge.specs.Growing.{judgementOf}
+use Rattle.judge.specs.Growing.{opensIn}
 use Rattle.judge.specs.Sizes.{foundUpTo, largest-few}
 use Rattle.judge.proofs.searched.Statement.{statement}
 use Rattle.judge.proofs.searched.Tie as tie
@@ -16,10 +14,10 @@ largest-requires : tie.Need-largest-requires
 largest-requires c κs = search needs
 
 search-sizes-requires : tie.Need-search-sizes-requires
-search-sizes-requires c κs = let s = c .before .before .before .before .before .before .before .before in (subst (λ (k : ℕ). k ≤ 4) (sym (c .before .before .before .largest .ensures)) (largest-few (s .args .which) (s .args .t) (s .pre .1)), s .pre .2, c .before .before .before .before .before .before .before .tables-of .ensures)
+search-sizes-requires c κs = let s = c .before .before .before .before .before .before .before .before .before in (subst (λ (k : ℕ). k ≤ 4) (sym (c .before .before .before .largest .ensures)) (largest-few (s .args .q .which) (s .args .q .t) (s .pre .1)), s .pre .2, c .before .before .before .before .before .before .before .tables-of .ensures)
 
 returns : tie.Need-returns
-returns c = let s = c .before .before .before .before .before .before .before .before .before in let o = isOpen (judgementOf (s .args .which)) (routineOf (s .args .s) (s .args .d) (s .args .n) (s .args .ws)) (s .args .t) in c .search-sizes .ensures ∙ ap (λ (k : ℕ). foundUpTo o k (s .args .n)) (c .before .before .before .before .largest .ensures)
+returns c = let s = c .before .before .before .before .before .before .before .before .before .before in let o = opensIn (s .args .q) in c .search-sizes .ensures ∙ ap (λ (k : ℕ). foundUpTo o k (s .args .q .n)) (c .before .before .before .before .largest .ensures)
 
 pub searched-spec : {M : Type 1} → statement M
 searched-spec =

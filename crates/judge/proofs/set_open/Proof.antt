@@ -20,16 +20,16 @@ returns-2 : tie.Need-returns-2
 returns-2 c = let k = c .before .before .before .before .before .struct-known .given in sym (cones-open (c .before .before .before .before .before .before .pre) _ (c .before .before .bound-of .ensures) (omega arith) (sym (c .before .over .ensures) ∙ not-true _ (c .if2 .taken)))
 
 probe-marks-requires : tie.Need-probe-marks-requires
-probe-marks-requires c κs = low-probes (c .before .before .before .before .before .before .pre)
+probe-marks-requires c κs = low-probes (c .before .before .before .before .before .before .before .pre)
 
 needed-word-requires : tie.Need-needed-word-requires
-needed-word-requires c κs = (wired-of _ _ _ _ (c .before .before .before .before .before .before .before .pre .fits), shares-of _ _ _ _ (c .before .before .before .before .before .before .before .pre .fits))
+needed-word-requires c κs = (wired-of _ _ _ _ (c .before .before .before .before .before .before .before .before .pre .fits), shares-of _ _ _ _ (c .before .before .before .before .before .before .before .before .pre .fits))
 
 over-requires-2 : tie.Need-over-requires-2
-over-requires-2 c κs = shares-of _ _ _ _ (c .before .before .before .before .before .before .before .before .pre .fits)
+over-requires-2 c κs = shares-of _ _ _ _ (c .before .before .before .before .before .before .before .before .before .pre .fits)
 
 returns-3 : tie.Need-returns-3
-returns-3 c = c .over2 .ensures ∙ run-open (c .before .before .before .before .before .before .before .before .before .pre) _ _ _ (c .before .before .before .before .before .bound-of .ensures) (c .before .before .probe-marks .ensures) (c .before .needed-word .ensures)
+returns-3 c = c .over2 .ensures ∙ run-open (c .before .before .before .before .before .before .before .before .before .before .pre) _ _ _ (c .before .before .before .before .before .before .bound-of .ensures) (c .before .before .probe-marks .ensures) (c .before .needed-word .ensures)
 
 pub set-open-spec : {M : Type 1} → statement M
 set-open-spec =
