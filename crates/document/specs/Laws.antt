@@ -1,5 +1,7 @@
 -- The laws of the definitions, from small to large; each file says of what.
 pub mod Tests
+pub mod Cuts
+pub mod Placing
 pub mod Marks
 pub mod Rule
 pub mod Live

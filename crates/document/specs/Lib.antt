@@ -7,7 +7,6 @@ pub mod Reading
 pub mod Writing
 pub mod Running
 pub mod ProbeSets
-pub mod Placing
 pub mod Padding
 pub mod Judgements
 pub mod Starts

@@ -5,7 +5,7 @@ ghost use Prim.Native.Nat.{_+_, _≤_, _<_};
 ghost use lib.ListN.{take, getD};
 ghost use Rattle.document.specs.Basics.{elem};
 ghost use Rattle.document.specs.ProbeSets.{ascending, emptySet, mayAdd, adding};
-ghost use Rattle.document.specs.Placing.{rank, placedAt, placesWith};
+ghost use Rattle.document.specs.Laws.Placing.{rank, placedAt, placesWith};
 
 // What makes a wire.
 pub enum Kind {

@@ -11,6 +11,7 @@ use lib.Dec.{leb, eqb}
 use borrow.Author.Tests.{leb-true, eq-eqb, ne-eqb}
 use Rattle.document.specs.Basics.{same}
 use Rattle.document.specs.Laws.Tests.{and-l, and-r}
+use Rattle.document.specs.Laws.Cuts.{cut-some}
 use Rattle.document.specs.Lines.{cut, front, number, digit, lead, ofFields, wordOf, spelled}
 use Rattle.document.specs.declared.Number.{Number}
 use Rattle.document.specs.declared.Number.the-variants.{Bad}
@@ -129,25 +130,6 @@ parted s (x ∷ xs) (suc r) h f g =
 
 pub tail-is : (n : ℕ) (xs : List ℕ) → take (length xs - n) (drop n xs) ≡ drop n xs
 tail-is n xs = take-all (length xs - n) (drop n xs) (simp length-drop (omega arith))
-
-pub firstPart : List (List ℕ) → List ℕ
-firstPart [] = []
-firstPart (p ∷ ps) = p
-
-pub laterParts : List (List ℕ) → List (List ℕ)
-laterParts [] = []
-laterParts (p ∷ ps) = ps
-
--- a cut has a first part
-pub cut-some : (s : ℕ) (xs : List ℕ) → cut s xs ≡ firstPart (cut s xs) ∷ laterParts (cut s xs)
-unfolding cut front firstPart laterParts
-cut-some s [] = refl
-cut-some s (x ∷ xs) = go (eqb x s) (cut s xs) (cut-some s xs) where
-  go : (b : Bool) (ps : List (List ℕ)) → ps ≡ firstPart ps ∷ laterParts ps
-      → cond b ([] ∷ ps) (front x ps) ≡ firstPart (cond b ([] ∷ ps) (front x ps)) ∷ laterParts (cond b ([] ∷ ps) (front x ps))
-  go b [] e = let z : _≡_ {A = ℕ} 0 1 = cc in absurd (let w : ⊥ = omega arith in w)
-  go true (p ∷ ps) e = refl
-  go false (p ∷ ps) e = refl
 
 -- ---- lines, field by field
 

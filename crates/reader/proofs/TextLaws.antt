@@ -22,7 +22,7 @@ use Rattle.document.specs.declared.Refusal.the-variants as No
 use Rattle.document.specs.declared.Outcome.the-variants.{Done, Refused}
 use Rattle.document.specs.declared.State.{State}
 use Rattle.document.specs.declared.Taken.{Taken}
-use Rattle.line.proofs.Laws.{cut-some}
+use Rattle.document.specs.Laws.Cuts.{cut-some}
 use Rattle.reader.specs.Sound.{Sound}
 use Rattle.reader.proofs.LineLaws.{take-sound}
 

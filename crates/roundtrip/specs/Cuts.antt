@@ -8,6 +8,7 @@ use lib.Dec.{eqb}
 use lib.ListN.{length, getD}
 use borrow.Author.Tests.{eqb-true, eq-eqb, not-true}
 use Rattle.document.specs.Lines.{cut, front, heads, join}
+use Rattle.document.specs.Laws.Cuts.{firstPart, laterParts, cut-some}
 use Rattle.roundtrip.specs.Tests.{both}
 
 -- ---- fields
@@ -50,28 +51,10 @@ unfolding join
 join-front s x q [] = refl
 join-front s x q (r ∷ qs) = refl
 
-first : List (List ℕ) → List ℕ
-first [] = []
-first (p ∷ ps) = p
-
-behind : List (List ℕ) → List (List ℕ)
-behind [] = []
-behind (p ∷ ps) = ps
-
--- a cut has a first part
-cut-some : (s : ℕ) (xs : List ℕ) → cut s xs ≡ first (cut s xs) ∷ behind (cut s xs)
-unfolding cut front first behind
-cut-some s [] = refl
-cut-some s (x ∷ xs) = go (eqb x s) (cut s xs) (cut-some s xs) where
-  go : (b : Bool) (p : List (List ℕ)) → p ≡ first p ∷ behind p → cond b ([] ∷ p) (front x p) ≡ first (cond b ([] ∷ p) (front x p)) ∷ behind (cond b ([] ∷ p) (front x p))
-  go b [] e = let z : _≡_ {A = ℕ} 0 1 = cc in absurd (let w : ⊥ = omega arith in w)
-  go true (q ∷ qs) e = refl
-  go false (q ∷ qs) e = refl
-
 pub join-cut : (s : ℕ) (xs : List ℕ) → join s (cut s xs) ≡ xs
 unfolding cut front join
 join-cut s [] = refl
-join-cut s (x ∷ xs) = go (eqb x s) refl (first (cut s xs)) (behind (cut s xs)) (cut-some s xs) (join-cut s xs) where
+join-cut s (x ∷ xs) = go (eqb x s) refl (firstPart (cut s xs)) (laterParts (cut s xs)) (cut-some s xs) (join-cut s xs) where
   go : (b : Bool) → eqb x s ≡ b → (q : List ℕ) (qs : List (List ℕ)) → cut s xs ≡ q ∷ qs → join s (cut s xs) ≡ xs
       → join s (cond b ([] ∷ cut s xs) (front x (cut s xs))) ≡ x ∷ xs
   go true e q qs c h = ap (λ (l : List (List ℕ)). join s ([] ∷ l)) c ∙ ap₂ (λ (y : ℕ) (ys : List ℕ). y ∷ ys) (sym (eqb-true x s e)) (ap (join s) (sym c) ∙ h)
@@ -79,12 +62,12 @@ join-cut s (x ∷ xs) = go (eqb x s) refl (first (cut s xs)) (behind (cut s xs))
 
 -- ---- lines
 
--- each part with an LF behind it
+-- each part with an LF laterParts it
 unfoldable pub ended : List (List ℕ) → List ℕ
 ended [] = []
 ended (p ∷ ps) = p ++ 10 ∷ ended ps
 
--- what stands behind the last separator
+-- what stands laterParts the last separator
 unfoldable pub lastPart : List (List ℕ) → List ℕ
 lastPart [] = []
 lastPart (p ∷ []) = p
@@ -114,21 +97,21 @@ ended-heads (p ∷ q ∷ ps) h = ap (λ (r : List ℕ). p ++ 10 ∷ r) (ended-he
 -- a text that LF ends has nothing behind its last LF, and a part before it
 record Closed (ps : List (List ℕ)) : Type 0 where
   shut : lastPart ps ≡ []
-  two : behind ps ≡ [] → ⊥
+  two : laterParts ps ≡ [] → ⊥
 
 closed-more : (p : List ℕ) (ps : List (List ℕ)) → Closed ps → Closed (p ∷ ps)
-unfolding lastPart behind
+unfolding lastPart laterParts
 closed-more p [] c = absurd (c .two refl)
 closed-more p (q ∷ ps) c = record { shut = c .shut; two = λ e. let z : _≡_ {A = ℕ} 0 1 = cc in omega arith }
 
 closed-front : (x : ℕ) (ps : List (List ℕ)) → Closed ps → Closed (front x ps)
-unfolding lastPart behind front
+unfolding lastPart laterParts front
 closed-front x [] c = c
 closed-front x (p ∷ []) c = absurd (c .two refl)
 closed-front x (p ∷ q ∷ ps) c = record { shut = c .shut; two = c .two }
 
 cut-closed : (t : List ℕ) → 0 < length t → getD t (length t - 1) 0 ≡ 10 → Closed (cut 10 t)
-unfolding cut front lastPart behind
+unfolding cut front lastPart laterParts
 cut-closed [] h e = let w : ⊥ = omega arith in absurd w
 cut-closed (x ∷ []) h e = let q : eqb x 10 ≡ true = eq-eqb x 10 e in rw q (record { shut = refl; two = λ e. let z : _≡_ {A = ℕ} 0 1 = cc in omega arith })
 cut-closed (x ∷ y ∷ t) h e = go (eqb x 10) (cut 10 (y ∷ t)) (cut-closed (y ∷ t) (omega arith) (ap (λ (n : ℕ). getD (x ∷ y ∷ t) n 0) s ∙ e)) where

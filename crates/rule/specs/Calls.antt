@@ -12,7 +12,7 @@ use lib.Seq.{sets, sets-eq, getD-take, length-take-le, take-append-add}
 use Rattle.document.specs.Basics.{each}
 use Rattle.document.specs.Routine.{Routine, routineOf, wellFormed, recordsFit}
 use Rattle.document.specs.ProbeSets.{held, ascending}
-use Rattle.document.specs.Placing.{held-next, held-ends}
+use Rattle.document.specs.Laws.Placing.{held-next, held-ends}
 use Rattle.document.specs.Padding.{probed, steps, neededShares, bitsOf, neededOf}
 use Rattle.document.specs.Judgements.{plain, isOpen, orderFits, probesFit, setRefusal, neededNot, needing, noStep, paddedNot, stepList, padding}
 use Rattle.document.specs.Lent.{lent, lentNeeding, lentPadding}

@@ -9,7 +9,7 @@ use lib.ListN.{length, getD, take, drop, set}
 use lib.Seq.{length-take-le}
 use Rattle.document.specs.Basics.{Marks, at, mark}
 use Rattle.document.specs.Routine.{Routine, isRand, routineOf}
-use Rattle.document.specs.Placing.{held-next, held-ends}
+use Rattle.document.specs.Laws.Placing.{held-next, held-ends}
 use Rattle.document.specs.Padding.{unmarked, operandsOf, operands, randsFrom, firstLeaves, liveDown, live}
 use Rattle.document.specs.declared.Wire.{Wire}
 use Rattle.document.specs.declared.ProbeSet.{ProbeSet}

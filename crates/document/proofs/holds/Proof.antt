@@ -4,7 +4,7 @@ use Prim.Native.Nat.{_-_, _≤_}
 use native.Mathlib.Omega.{arith}
 use borrow.Author.Needs.{needs}
 use lib.ListN.{length, take, drop}
-use Rattle.document.specs.Placing.{elem-here, elem-later, elem-none}
+use Rattle.document.specs.Laws.Placing.{elem-here, elem-later, elem-none}
 use Rattle.document.specs.Basics.{elem}
 use Rattle.document.proofs.holds.Statement.{statement}
 use Rattle.document.proofs.holds.Tie as tie

@@ -4,7 +4,7 @@ use Prim.Native.Nat.{_-_, _≤_}
 use native.Mathlib.Omega.{arith}
 use borrow.Author.Needs.{needs}
 use lib.ListN.{length, take, drop}
-use Rattle.document.specs.Placing.{ascends-on, ascends-not, ascends-end}
+use Rattle.document.specs.Laws.Placing.{ascends-on, ascends-not, ascends-end}
 use Rattle.document.specs.ProbeSets.{ascending}
 use Rattle.document.proofs.is_ascending.Statement.{statement}
 use Rattle.document.proofs.is_ascending.Tie as tie

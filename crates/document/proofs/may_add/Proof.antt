@@ -2,7 +2,7 @@
 use mathlib.Core.Path.{sym, _∙_}
 use native.Mathlib.Omega.{arith}
 use borrow.Author.Needs.{needs}
-use Rattle.document.specs.Placing.{full-refused, high-refused, held-refused, ascending-decides}
+use Rattle.document.specs.Laws.Placing.{full-refused, high-refused, held-refused, ascending-decides}
 use Rattle.document.proofs.may_add.Statement.{statement}
 use Rattle.document.proofs.may_add.Tie as tie
 

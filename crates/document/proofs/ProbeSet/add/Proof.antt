@@ -7,7 +7,7 @@ use native.Mathlib.Omega.{arith}
 use borrow.Author.Tests.{not-true, not-false}
 use borrow.Author.Needs.{needs}
 use lib.ListN.{length}
-use Rattle.document.specs.Placing.{placesWith, rank-fits, may-add-room, may-add-low, added, not-added}
+use Rattle.document.specs.Laws.Placing.{placesWith, rank-fits, may-add-room, may-add-low, added, not-added}
 use Rattle.document.specs.ProbeSets.{mayAdd}
 use Rattle.document.specs.declared.Added.{Added}
 use Rattle.document.specs.declared.Outcome.the-variants.{Done}
