@@ -18,7 +18,7 @@ placed-at-requires-4 c κs = search needs
 
 returns : tie.Need-returns
 unfolding placesWith
-returns c = cc
+returns c = simp (c .before .before .before .placed-at .ensures, c .before .before .placed-at2 .ensures, c .before .placed-at3 .ensures, c .placed-at4 .ensures)
 
 pub places-with-spec : {M : Type 1} → statement M
 places-with-spec =
