@@ -16,7 +16,7 @@ of-one-requires : tie.Need-of-one-requires
 of-one-requires c κs = search needs
 
 returns : tie.Need-returns
-returns c = rw (c .before .before .before .before .part .ensures .last (c .before .if1 .taken)) (cc)
+returns c = rw (c .before .before .before .before .part .ensures .last (c .before .if1 .taken), ← c .before .before .before .head .ensures, ← c .before .before .number-of .ensures) (c .of-one .ensures)
 
 add-tail : tie.Need-add-tail
 add-tail c = search needs
@@ -28,7 +28,7 @@ after-first-requires : tie.Need-after-first-requires
 after-first-requires c κs = search needs
 
 returns-2 : tie.Need-returns-2
-returns-2 c = rw (c .before .before .before .before .before .part .ensures .more (c .before .before .if1 .left)) (cc)
+returns-2 c = rw (c .before .before .before .before .before .part .ensures .more (c .before .before .if1 .left), ← c .before .before .before .before .head .ensures, ← c .before .before .before .number-of .ensures, ← c .before .tail .ensures) (c .after-first .ensures)
 
 pub after-word-spec : {M : Type 1} → statement M
 after-word-spec =

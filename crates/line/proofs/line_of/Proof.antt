@@ -29,7 +29,7 @@ after-word-requires : tie.Need-after-word-requires
 after-word-requires c κs = search needs
 
 returns-2 : tie.Need-returns-2
-returns-2 c = rw (c .before .before .before .before .before .part .ensures .more (c .before .before .before .before .if1 .left), by-field) (cc)
+returns-2 c = rw (c .before .before .before .before .before .part .ensures .more (c .before .before .before .before .if1 .left), by-field, ← c .before .before .before .head .ensures, ← c .before .before .word-of .ensures, ← c .before .tail .ensures) (c .after-word .ensures)
 
 pub line-of-spec : {M : Type 1} → statement M
 line-of-spec =
