@@ -25,7 +25,7 @@ same-length : tie.Need-same-length
 same-length c = search needs
 
 returns : tie.Need-returns
-returns c = cc
+returns c = simp (c .before .before .before .before .earlier .ensures, c .before .earlier2 .ensures, c .value-of .ensures)
 
 pub put-value-spec : {M : Type 1} → statement M
 put-value-spec =

@@ -15,7 +15,7 @@ word-fits-requires-3 c κs = search needs
 
 returns : tie.Need-returns
 unfolding wordsFit
-returns c = cc
+returns c = simp (c .before .before .word-fits .ensures, c .before .word-fits2 .ensures, c .word-fits3 .ensures)
 
 pub words-fit-spec : {M : Type 1} → statement M
 words-fit-spec =
