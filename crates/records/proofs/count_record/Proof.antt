@@ -30,7 +30,7 @@ add-t11 : tie.Need-add-t11
 add-t11 c = omega (arith, c .before .before .before .before .before .before .before .before .pre .outs-room, one-small (c .before .before .before .before .before .before .before .before .args .x .out) (c .before .one-if3 .ensures))
 
 returns : tie.Need-returns
-returns c = cc
+returns c = simp (c .before .before .before .before .before .before .before .is-rand .ensures, c .before .before .before .before .before .before .one-if .ensures, c .before .before .before .before .is-pub .ensures, c .before .before .before .one-if2 .ensures, c .before .one-if3 .ensures)
 
 pub count-record-spec : {M : Type 1} → statement M
 count-record-spec =
