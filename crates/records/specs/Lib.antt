@@ -2,3 +2,4 @@
 pub mod Records
 pub mod Laws
 pub mod Fit
+pub mod Once
