@@ -26,11 +26,11 @@ use denote.Struct.Laws as LL
 use denote.Triple.Statement.{Contract}
 use denote.Triple.Clauses.{ensured, lasts}
 use denote.Triple.Spec.{tripleOf}
-use Rattle.lent.specs.First.{firstOf}
+use Rattle.copies.specs.First.{firstOf}
 use Rattle.document.specs.declared.Wire.{Wire}
 use Rattle.document.proofs.Wire as T
 use Rattle.document.proofs.Wire.Laws as T′
-use Rattle.lent.proofs.first as first
+use Rattle.copies.proofs.first as first
 
 -- the array by value
 abbrev pub Arr : RattleType

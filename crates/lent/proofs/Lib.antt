@@ -1,4 +1,3 @@
--- Laws of lists, and the words that the walks of this crate share.
-pub mod Lists
+-- Laws of what is read, and the words that the walks of this crate share.
 pub mod ReadLaws
 pub mod CallFirst

@@ -28,7 +28,7 @@ use Rattle.records.specs.Fit.{fit-of, share-number}
 use Rattle.records.specs.Records.{recordAt}
 use Rattle.writer.specs.Write as Writing
 use Rattle.runner.specs.Run as Running
-use Rattle.lent.specs.First.{fetched, clipped, firstOf, length-blanks}
+use Rattle.copies.specs.First.{fetched, clipped, firstOf, length-blanks}
 
 -- ---- the first n records
 

@@ -1,8 +1,7 @@
 // The calls over a lent list of wire records.
-// Every function that has the list is straight-line or one loop, and tests nothing: records are copied to and from arrays by
-// value, and functions that have those decide.
+// Every function that has the list is straight-line and tests nothing: `copies` copies records to and from arrays by value, and
+// functions that have those decide.
 use document::Judged;
-use document::Kind;
 use document::Needed;
 use document::Outcome;
 use document::Padded;
@@ -13,92 +12,11 @@ use document::Refusal;
 use document::Wire;
 use document::Written;
 ghost use mathlib.Core.Path.{_≡_};
-ghost use mathlib.Core.List.{_++_};
-ghost use Prim.Native.Nat.{_≤_, _<_};
-ghost use lib.ListN.{length, getD, set, take, drop};
-ghost use Rattle.document.specs.Routine.{blank};
-ghost use Rattle.document.specs.Reading.{blanks};
 ghost use Rattle.document.specs.Judgements.{plain, strong};
 ghost use Rattle.document.specs.Lent.{lentNeeding, lentPadding, lentJudged};
 ghost use Rattle.writer.specs.Write as Writing;
 ghost use Rattle.runner.specs.Run as Running;
-ghost use Rattle.lent.specs.First.{fetched, firstOf, clipped};
 ghost use Rattle.lent.specs.ReadInto.{readFor, answerOf, Answered};
-
-// ---- records to and from an array
-
-fn record_at(ws: [Wire; 128], i: usize) -> Wire
-    requires { ⌜ i < 128 ⌝ }
-    ensures { λ r. ⌜ r ≡ getD ws i blank ⌝ }
-{
-    ws[i]
-}
-
-fn with_record(ws: [Wire; 128], i: usize, x: Wire) -> [Wire; 128]
-    requires { ⌜ i < 128 ⌝ }
-    ensures { λ r. ⌜ r ≡ set ws i x ⌝ }
-{
-    let mut vs = ws;
-    vs[i] = x;
-    vs
-}
-
-fn no_records() -> [Wire; 128]
-    ensures { λ r. ⌜ r ≡ blanks ⌝ }
-{
-    [Wire {
-        kind: Kind::Share,
-        a: 0,
-        b: 0,
-        out: false,
-    }; 128]
-}
-
-// The first k records of the list, and blanks behind them.
-fn fetch(list: &[Wire], k: usize) -> [Wire; 128]
-    requires { ⌜ (k ≤ 128) × (k ≤ length (now list)) ⌝ }
-    ensures { λ r. ⌜ r ≡ fetched k (now (list .entry)) ⌝ }
-{
-    let mut ws = no_records();
-    let mut i = 0;
-    while i < k {
-        ws = with_record(ws, i, list[i]);
-        i += 1;
-    }
-    ws
-}
-
-// The first n records become those of the array; later ones keep their content.
-fn store(list: &mut [Wire], ws: [Wire; 128], n: usize)
-    requires { ⌜ (n ≤ 128) × (n ≤ length (now list)) ⌝ }
-    ensures { λ _. ⌜ now (list .exit) ≡ take n ws ++ drop n (now (list .entry)) ⌝ }
-{
-    let mut i = 0;
-    while i < n {
-        list[i] = record_at(ws, i);
-        i += 1;
-    }
-}
-
-// How many records stand for n in an array: none where the list is shorter than n or n is above 128.
-fn clip(len: usize, n: usize) -> usize
-    ensures { λ r. ⌜ (r ≡ clipped len n) × (r ≤ 128) × (r ≤ len) ⌝ }
-{
-    if len < n {
-        return 0;
-    }
-    if 128 < n {
-        return 0;
-    }
-    n
-}
-
-// The first n records, or only blank ones where there are not so many: no read gives those, so that a call refuses them as 11.
-fn first(list: &[Wire], n: usize) -> [Wire; 128]
-    ensures { λ r. ⌜ r ≡ firstOf n (now (list .entry)) ⌝ }
-{
-    fetch(list, clip(list.len(), n))
-}
 
 // ---- reading
 
@@ -117,7 +35,7 @@ fn read_for(text: &[u8], len: usize) -> Read
 {
     if len < 128 {
         let outcome = Outcome::Refused(Refusal::Lent);
-        let wires = no_records();
+        let wires = copies::no_records();
         return Read {
             outcome,
             line: 0,
@@ -155,7 +73,7 @@ pub fn read(text: &[u8], list: &mut [Wire]) -> Filled
 {
     let r = read_for(text, list.len());
     let ws = wires_of(r);
-    store(list, ws, r.n);
+    copies::store(list, ws, r.n);
     answer_of(r)
 }
 
@@ -165,7 +83,7 @@ pub fn read(text: &[u8], list: &mut [Wire]) -> Filled
 pub fn write(s: usize, d: usize, n: usize, list: &[Wire], buf: &mut [u8]) -> Written
     ensures { λ r. ⌜ Writing.Answered s d n (now (list .entry)) (now (buf .entry)) r (now (buf .exit)) ⌝ }
 {
-    let ws = first(list, n);
+    let ws = copies::first(list, n);
     writer::write(s, d, n, ws, buf)
 }
 
@@ -182,7 +100,7 @@ pub fn run(
 ) -> Ran
     ensures { λ r. ⌜ Running.Answered s d n (now (list .entry)) shares randoms publics (now (buf .entry)) r (now (buf .exit)) ⌝ }
 {
-    let ws = first(list, n);
+    let ws = copies::first(list, n);
     runner::run(s, d, n, ws, shares, randoms, publics, buf)
 }
 
@@ -192,7 +110,7 @@ pub fn run(
 pub fn needs(s: usize, d: usize, n: usize, list: &[Wire], t: usize, set: ProbeSet) -> Needed
     ensures { λ r. ⌜ r ≡ lentNeeding s d n (now (list .entry)) t set ⌝ }
 {
-    let ws = first(list, n);
+    let ws = copies::first(list, n);
     rule::needs(s, d, n, ws, t, set)
 }
 
@@ -200,7 +118,7 @@ pub fn needs(s: usize, d: usize, n: usize, list: &[Wire], t: usize, set: ProbeSe
 pub fn pads(s: usize, d: usize, n: usize, list: &[Wire], t: usize, set: ProbeSet) -> Padded
     ensures { λ r. ⌜ r ≡ lentPadding s d n (now (list .entry)) t set ⌝ }
 {
-    let ws = first(list, n);
+    let ws = copies::first(list, n);
     rule::pads(s, d, n, ws, t, set)
 }
 
@@ -210,7 +128,7 @@ pub fn pads(s: usize, d: usize, n: usize, list: &[Wire], t: usize, set: ProbeSet
 pub fn plain(s: usize, d: usize, n: usize, list: &[Wire], t: usize) -> Judged
     ensures { λ r. ⌜ r ≡ lentJudged plain s d n (now (list .entry)) t ⌝ }
 {
-    let ws = first(list, n);
+    let ws = copies::first(list, n);
     judge::plain(s, d, n, ws, t)
 }
 
@@ -218,6 +136,6 @@ pub fn plain(s: usize, d: usize, n: usize, list: &[Wire], t: usize) -> Judged
 pub fn strong(s: usize, d: usize, n: usize, list: &[Wire], t: usize) -> Judged
     ensures { λ r. ⌜ r ≡ lentJudged strong s d n (now (list .entry)) t ⌝ }
 {
-    let ws = first(list, n);
+    let ws = copies::first(list, n);
     judge::strong(s, d, n, ws, t)
 }

@@ -38,7 +38,7 @@ use Rattle.document.specs.declared.Wire.{Wire}
 use Rattle.document.specs.declared.Padded.{Padded}
 use Rattle.document.specs.declared.ProbeSet.{ProbeSet}
 use Rattle.document.specs.Lent.{lentPadding}
-use Rattle.lent.specs.First.{firstOf}
+use Rattle.copies.specs.First.{firstOf}
 use Rattle.lent.specs.Same.{pads-same}
 use Rattle.document.proofs.Wire as T
 use Rattle.document.proofs.Padded as R
@@ -46,9 +46,9 @@ use Rattle.document.proofs.Padded.Laws as R′
 use Rattle.document.proofs.ProbeSet as Set
 use Rattle.document.proofs.ProbeSet.Laws as Set′
 use Rattle.lent.proofs.CallFirst.{Arr, arr-makes, arr-typed, First, listVal, Own, to-first, asked-first, Said-first, said-first}
-use Rattle.lent.proofs.first.Symbol as first-def
-use Rattle.lent.proofs.first.Symbol.{name as #lent·first}
-use Rattle.lent.proofs.first.Met as first-thm
+use Rattle.copies.proofs.first.Symbol as first-def
+use Rattle.copies.proofs.first.Symbol.{name as #copies·first}
+use Rattle.copies.proofs.first.Met as first-thm
 use Rattle.rule.proofs.pads as callee
 use Rattle.rule.proofs.pads.Symbol as callee-def
 use Rattle.rule.proofs.pads.Symbol.{name as #callee}
@@ -92,7 +92,7 @@ module _ {M : Type 1} (𝓤 : URA M) (H : Heap 𝓤) (A : Atoms 𝓤) (W : Given
   said-callee : (m : List Wire) (r : Padded) → ent 𝓤 (ensured 𝓤 H A callee.ended (callee.clauses 𝓤 H A mem run) tt (s, (d, (n, (m, (t, (set, tt)))))) tt r) (fact 𝓤 (r ≡ lentPadding s d n m t set))
   said-callee m r = exE 𝓤 _ (λ us. snd∗ 𝓤 (sem 𝓤 H A (lasts callee.ended tt (s, (d, (n, (m, (t, (set, tt)))))) us)) (fact 𝓤 (r ≡ lentPadding s d n m t set)))
 
-  walk : (C : Calls 𝓤 H) (Λ : Loops 𝓤 H) (fm : FmC 𝓤 H (W .laws) C) → Triple 𝓤 (C #lent·first) (First 𝓤 H A mem run) → Triple 𝓤 (C #callee) (Callee 𝓤 H A mem run)
+  walk : (C : Calls 𝓤 H) (Λ : Loops 𝓤 H) (fm : FmC 𝓤 H (W .laws) C) → Triple 𝓤 (C #copies·first) (First 𝓤 H A mem run) → Triple 𝓤 (C #callee) (Callee 𝓤 H A mem run)
       → ent 𝓤 (onEntry 𝓤 H A this.signature (κ, tt) (q, tt) x at) (WpFn 𝓤 H C Λ code.function (vint w64 s ∷ vint w64 d ∷ vint w64 n ∷ sliceVal (list .ptr) (length (list .now)) ∷ vint w64 t ∷ set-val ∷ []) Post)
   walk C Λ fm known-first known-callee =
       qed W ((‵ (flft κ q) ⊛ ‵ ftrue) ∷ ‵ (owns (usize ∷ usize ∷ usize ∷ ShrSlice (named 0) κ T.the-row ∷ usize ∷ Set.the-row ∷ []) x at) ∷ []) ∵ enter ! C Λ code.function (vint w64 s ∷ vint w64 d ∷ vint w64 n ∷ sliceVal (list .ptr) (length (list .now)) ∷ vint w64 t ∷ set-val ∷ []) _ $
@@ -118,7 +118,7 @@ module _ {M : Type 1} (𝓤 : URA M) (H : Heap 𝓤) (A : Atoms 𝓤) (W : Given
       keep ! (2 ∷ 3 ∷ []) $ by ! (exits r v (pads-same s d n (list .now) t set (e ∙ ap (λ (ws : List Wire). lentPadding s d n ws t set) first-is)) is)))))))))))))))))
 
 module _ {M : Type 1} (𝓤 : URA M) (H : Heap 𝓤) (A : Atoms 𝓤) (W : Given 𝓤 H A) (mem : Memory → SProp 𝓤) (run : Routine → Fun 𝓤) where
-  pads-walks : (C : Calls 𝓤 H) (Λ : Loops 𝓤 H) → FmC 𝓤 H (W .laws) C → Triple 𝓤 (C #lent·first) (First 𝓤 H A mem run) → Triple 𝓤 (C #callee) (Callee 𝓤 H A mem run)
+  pads-walks : (C : Calls 𝓤 H) (Λ : Loops 𝓤 H) → FmC 𝓤 H (W .laws) C → Triple 𝓤 (C #copies·first) (First 𝓤 H A mem run) → Triple 𝓤 (C #callee) (Callee 𝓤 H A mem run)
       → Walks 𝓤 H A this.ended stayed (WpFn 𝓤 H C Λ code.function) (this.clauses 𝓤 H A mem run)
   pads-walks C Λ fm known-first known-callee = walked 𝓤 H A this.ended stayed (this.clauses 𝓤 H A mem run) (WpFn 𝓤 H C Λ code.function)
       (λ κs. (uint-vals w64, (uint-vals w64, (uint-vals w64, (slice-vals, (uint-vals w64, (LL.vals Set.the-type Set′.the-laws, tt)))))))
@@ -126,7 +126,7 @@ module _ {M : Type 1} (𝓤 : URA M) (H : Heap 𝓤) (A : Atoms 𝓤) (W : Given
       (λ κs qs bounds a g are. via 𝓤 _ (fst∗ 𝓤 _ (emp 𝓤)) (walk 𝓤 H A W mem run (κs .0) (qs .0) (a .0) (a .1 .0) (a .1 .1 .0) (a .1 .1 .1 .0) (a .1 .1 .1 .1 .0) (a .1 .1 .1 .1 .1 .0)
       (are .1 .1 .1 .0 .0 .1) (are .0 .1) (are .1 .0 .1) (are .1 .1 .0 .1) (are .1 .1 .1 .1 .0 .1) _ (are .1 .1 .1 .1 .1 .0) C Λ fm known-first known-callee))
 
-pads-meets : {M : Type 1} (𝓤 : URA M) (H : Heap 𝓤) (A : Atoms 𝓤) → Given 𝓤 H A → (mem : Memory → SProp 𝓤) (run : Routine → Fun 𝓤) (𝓣 : Tables 𝓤 H) → Triple 𝓤 (𝓣 .C #lent·first) (First 𝓤 H A mem run) → Triple 𝓤 (𝓣 .C #callee) (Callee 𝓤 H A mem run)
+pads-meets : {M : Type 1} (𝓤 : URA M) (H : Heap 𝓤) (A : Atoms 𝓤) → Given 𝓤 H A → (mem : Memory → SProp 𝓤) (run : Routine → Fun 𝓤) (𝓣 : Tables 𝓤 H) → Triple 𝓤 (𝓣 .C #copies·first) (First 𝓤 H A mem run) → Triple 𝓤 (𝓣 .C #callee) (Callee 𝓤 H A mem run)
     → Meets 𝓤 H A this.signature (WpFn 𝓤 H (𝓣 .C) (𝓣 .Λ) code.function) (this.spec 𝓤 H A mem run)
 pads-meets 𝓤 H A W mem run 𝓣 known-first known-callee =
     walk-meets 𝓤 H A this.ended stayed W
@@ -139,5 +139,5 @@ pads-spec 𝓤 H 𝓜 𝓖 𝓡 =
     entered 𝓤 H (tripleOf 𝓤 H (𝓖 .A) this.signature (this.spec 𝓤 H (𝓖 .A) (𝓜 .mem) (𝓡 .run)))
     (tables 𝓤 H 𝓜 𝓡 code.env .C) (tables 𝓤 H 𝓜 𝓡 code.env .Λ) #pads code.function (code.unfolded 𝓤 H 𝓜 𝓡)
     (pads-meets 𝓤 H (𝓖 .A) (givenOf 𝓤 H 𝓜 𝓖) (𝓜 .mem) (𝓡 .run) (tablesOf 𝓤 H 𝓜 (tables 𝓤 H 𝓜 𝓡 code.env))
-    (cited 𝓤 H (First 𝓤 H (𝓖 .A) (𝓜 .mem) (𝓡 .run)) 𝓜 𝓡 code.env #lent·first first-def.routine code.calls-lent·first (first-thm.met 𝓤 H 𝓜 𝓖 𝓡))
+    (cited 𝓤 H (First 𝓤 H (𝓖 .A) (𝓜 .mem) (𝓡 .run)) 𝓜 𝓡 code.env #copies·first first-def.routine code.calls-copies·first (first-thm.met 𝓤 H 𝓜 𝓖 𝓡))
     (cited 𝓤 H (Callee 𝓤 H (𝓖 .A) (𝓜 .mem) (𝓡 .run)) 𝓜 𝓡 code.env #callee callee-def.routine code.calls-rule·pads (callee-thm.met 𝓤 H 𝓜 𝓖 𝓡)))

@@ -55,10 +55,10 @@ use Rattle.lent.proofs.wires_of as wires-of
 use Rattle.lent.proofs.wires_of.Symbol as wires-of-def
 use Rattle.lent.proofs.wires_of.Symbol.{name as #wires-of}
 use Rattle.lent.proofs.wires_of.Met as wires-of-thm
-use Rattle.lent.proofs.store as store
-use Rattle.lent.proofs.store.Symbol as store-def
-use Rattle.lent.proofs.store.Symbol.{name as #store}
-use Rattle.lent.proofs.store.Met as store-thm
+use Rattle.copies.proofs.store as store
+use Rattle.copies.proofs.store.Symbol as store-def
+use Rattle.copies.proofs.store.Symbol.{name as #store}
+use Rattle.copies.proofs.store.Met as store-thm
 use Rattle.lent.proofs.answer_of as answer
 use Rattle.lent.proofs.answer_of.Symbol as answer-def
 use Rattle.lent.proofs.answer_of.Symbol.{name as #answer}
@@ -254,5 +254,5 @@ read-spec 𝓤 H 𝓜 𝓖 𝓡 =
     (read-meets 𝓤 H (𝓖 .A) (givenOf 𝓤 H 𝓜 𝓖) (𝓜 .mem) (𝓡 .run) (tablesOf 𝓤 H 𝓜 (tables 𝓤 H 𝓜 𝓡 code.env))
     (cited 𝓤 H (ReadFor 𝓤 H (𝓖 .A) (𝓜 .mem) (𝓡 .run)) 𝓜 𝓡 code.env #read-for read-for-def.routine code.calls-lent·read-for (read-for-thm.met 𝓤 H 𝓜 𝓖 𝓡))
     (cited 𝓤 H (WiresOf 𝓤 H (𝓖 .A) (𝓜 .mem) (𝓡 .run)) 𝓜 𝓡 code.env #wires-of wires-of-def.routine code.calls-lent·wires-of (wires-of-thm.met 𝓤 H 𝓜 𝓖 𝓡))
-    (cited 𝓤 H (Store 𝓤 H (𝓖 .A) (𝓜 .mem) (𝓡 .run)) 𝓜 𝓡 code.env #store store-def.routine code.calls-lent·store (store-thm.met 𝓤 H 𝓜 𝓖 𝓡))
+    (cited 𝓤 H (Store 𝓤 H (𝓖 .A) (𝓜 .mem) (𝓡 .run)) 𝓜 𝓡 code.env #store store-def.routine code.calls-copies·store (store-thm.met 𝓤 H 𝓜 𝓖 𝓡))
     (cited 𝓤 H (Answer 𝓤 H (𝓖 .A) (𝓜 .mem) (𝓡 .run)) 𝓜 𝓡 code.env #answer answer-def.routine code.calls-lent·answer-of (answer-thm.met 𝓤 H 𝓜 𝓖 𝓡)))

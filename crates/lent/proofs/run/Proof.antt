@@ -38,15 +38,15 @@ use denote.Exit.{yes}
 use Rattle.document.specs.declared.Wire.{Wire}
 use Rattle.document.specs.declared.Ran.{Ran}
 use Rattle.runner.specs.Run as Running
-use Rattle.lent.specs.First.{firstOf}
+use Rattle.copies.specs.First.{firstOf}
 use Rattle.lent.specs.Same.{run-same}
 use Rattle.document.proofs.Wire as T
 use Rattle.document.proofs.Ran as R
 use Rattle.document.proofs.Ran.Laws as R′
 use Rattle.lent.proofs.CallFirst.{Arr, arr-makes, arr-typed, First, listVal, Own, to-first, asked-first, Said-first, said-first}
-use Rattle.lent.proofs.first.Symbol as first-def
-use Rattle.lent.proofs.first.Symbol.{name as #lent·first}
-use Rattle.lent.proofs.first.Met as first-thm
+use Rattle.copies.proofs.first.Symbol as first-def
+use Rattle.copies.proofs.first.Symbol.{name as #copies·first}
+use Rattle.copies.proofs.first.Met as first-thm
 use Rattle.runner.proofs.run as callee
 use Rattle.runner.proofs.run.Symbol as callee-def
 use Rattle.runner.proofs.run.Symbol.{name as #callee}
@@ -88,7 +88,7 @@ module _ {M : Type 1} (𝓤 : URA M) (H : Heap 𝓤) (A : Atoms 𝓤) (W : Given
       qed W ((‵ (flft κ′ q′) ⊛ ‵ ftrue) ∷ ‵ (MutSlice (named 0) κ′ u8 .own buf (sliceVal (buf .ptr) (length (buf .now)) ∷ [])) ∷ []) ∵
       nothing ! $ move ! (2 ∷ 0 ∷ []) $ fjoin ! $ owned ! u64 (Is u64) (uint-makes 𝓤 H A W w64) publics _ (refl, publics-fits) $ fjoin ! $ owned ! u64 (Is u64) (uint-makes 𝓤 H A W w64) randoms _ (refl, randoms-fits) $ fjoin ! $ owned ! u64 (Is u64) (uint-makes 𝓤 H A W w64) shares _ (refl, shares-fits) $ fjoin ! $ owned ! Arr (Is Arr) (arr-makes 𝓤 H A W) m _ g $ fjoin ! $ owned ! usize (Is usize) (uint-makes 𝓤 H A W w64) n _ (refl, n-fits) $ fjoin ! $ owned ! usize (Is usize) (uint-makes 𝓤 H A W w64) d _ (refl, d-fits) $ fjoin ! $ owned ! usize (Is usize) (uint-makes 𝓤 H A W w64) s _ (refl, s-fits) $ fjoin ! $ move ! (1 ∷ 0 ∷ []) $ join ! $ frame ! $ done !
 
-  walk : (C : Calls 𝓤 H) (Λ : Loops 𝓤 H) (fm : FmC 𝓤 H (W .laws) C) → Triple 𝓤 (C #lent·first) (First 𝓤 H A mem run) → Triple 𝓤 (C #callee) (Callee 𝓤 H A mem run)
+  walk : (C : Calls 𝓤 H) (Λ : Loops 𝓤 H) (fm : FmC 𝓤 H (W .laws) C) → Triple 𝓤 (C #copies·first) (First 𝓤 H A mem run) → Triple 𝓤 (C #callee) (Callee 𝓤 H A mem run)
       → ent 𝓤 (onEntry 𝓤 H A this.signature (κ, (κ′, tt)) (q, (q′, tt)) x at) (WpFn 𝓤 H C Λ code.function (vint w64 s ∷ vint w64 d ∷ vint w64 n ∷ sliceVal (list .ptr) (length (list .now)) ∷ vint w64 shares ∷ vint w64 randoms ∷ vint w64 publics ∷ sliceVal (buf .ptr) (length (buf .now)) ∷ []) Post)
   walk C Λ fm known-first known-callee =
       qed W ((‵ (flft κ q) ⊛ (‵ (flft κ′ q′) ⊛ ‵ ftrue)) ∷ ‵ (owns (usize ∷ usize ∷ usize ∷ ShrSlice (named 0) κ T.the-row ∷ u64 ∷ u64 ∷ u64 ∷ MutSlice (named 1) κ′ u8 ∷ []) x at) ∷ []) ∵ enter ! C Λ code.function (vint w64 s ∷ vint w64 d ∷ vint w64 n ∷ sliceVal (list .ptr) (length (list .now)) ∷ vint w64 shares ∷ vint w64 randoms ∷ vint w64 publics ∷ sliceVal (buf .ptr) (length (buf .now)) ∷ []) _ $
@@ -118,7 +118,7 @@ module _ {M : Type 1} (𝓤 : URA M) (H : Heap 𝓤) (A : Atoms 𝓤) (W : Given
       keep ! (4 ∷ 1 ∷ 2 ∷ 5 ∷ []) $ by ! (exits r v (zs .1 .1 .1 .1 .1 .1 .1 .0) (run-same s d n (list .now) (buf .now) (subst (λ (ws : List Wire). Running.Answered s d n ws shares randoms publics (buf .now) r (zs .1 .1 .1 .1 .1 .1 .1 .0)) first-is e)) l is)))))))))))))))))))))))
 
 module _ {M : Type 1} (𝓤 : URA M) (H : Heap 𝓤) (A : Atoms 𝓤) (W : Given 𝓤 H A) (mem : Memory → SProp 𝓤) (run : Routine → Fun 𝓤) where
-  run-walks : (C : Calls 𝓤 H) (Λ : Loops 𝓤 H) → FmC 𝓤 H (W .laws) C → Triple 𝓤 (C #lent·first) (First 𝓤 H A mem run) → Triple 𝓤 (C #callee) (Callee 𝓤 H A mem run)
+  run-walks : (C : Calls 𝓤 H) (Λ : Loops 𝓤 H) → FmC 𝓤 H (W .laws) C → Triple 𝓤 (C #copies·first) (First 𝓤 H A mem run) → Triple 𝓤 (C #callee) (Callee 𝓤 H A mem run)
       → Walks 𝓤 H A this.ended stayed (WpFn 𝓤 H C Λ code.function) (this.clauses 𝓤 H A mem run)
   run-walks C Λ fm known-first known-callee = walked 𝓤 H A this.ended stayed (this.clauses 𝓤 H A mem run) (WpFn 𝓤 H C Λ code.function)
       (λ κs. (uint-vals w64, (uint-vals w64, (uint-vals w64, (slice-vals, (uint-vals w64, (uint-vals w64, (uint-vals w64, (slice-vals, tt)))))))))
@@ -126,7 +126,7 @@ module _ {M : Type 1} (𝓤 : URA M) (H : Heap 𝓤) (A : Atoms 𝓤) (W : Given
       (λ κs qs bounds a g are. via 𝓤 _ (fst∗ 𝓤 _ (emp 𝓤)) (walk 𝓤 H A W mem run (κs .0) (κs .1 .0) (qs .0) (qs .1 .0) (a .0) (a .1 .0) (a .1 .1 .0) (a .1 .1 .1 .0) (a .1 .1 .1 .1 .0) (a .1 .1 .1 .1 .1 .0) (a .1 .1 .1 .1 .1 .1 .0) (a .1 .1 .1 .1 .1 .1 .1 .0)
       (are .1 .1 .1 .0 .0 .1) (are .1 .1 .1 .1 .1 .1 .1 .0 .0 .1) (are .0 .1) (are .1 .0 .1) (are .1 .1 .0 .1) (are .1 .1 .1 .1 .0 .1) (are .1 .1 .1 .1 .1 .0 .1) (are .1 .1 .1 .1 .1 .1 .0 .1) C Λ fm known-first known-callee))
 
-run-meets : {M : Type 1} (𝓤 : URA M) (H : Heap 𝓤) (A : Atoms 𝓤) → Given 𝓤 H A → (mem : Memory → SProp 𝓤) (run : Routine → Fun 𝓤) (𝓣 : Tables 𝓤 H) → Triple 𝓤 (𝓣 .C #lent·first) (First 𝓤 H A mem run) → Triple 𝓤 (𝓣 .C #callee) (Callee 𝓤 H A mem run)
+run-meets : {M : Type 1} (𝓤 : URA M) (H : Heap 𝓤) (A : Atoms 𝓤) → Given 𝓤 H A → (mem : Memory → SProp 𝓤) (run : Routine → Fun 𝓤) (𝓣 : Tables 𝓤 H) → Triple 𝓤 (𝓣 .C #copies·first) (First 𝓤 H A mem run) → Triple 𝓤 (𝓣 .C #callee) (Callee 𝓤 H A mem run)
     → Meets 𝓤 H A this.signature (WpFn 𝓤 H (𝓣 .C) (𝓣 .Λ) code.function) (this.spec 𝓤 H A mem run)
 run-meets 𝓤 H A W mem run 𝓣 known-first known-callee =
     walk-meets 𝓤 H A this.ended stayed W
@@ -139,5 +139,5 @@ run-spec 𝓤 H 𝓜 𝓖 𝓡 =
     entered 𝓤 H (tripleOf 𝓤 H (𝓖 .A) this.signature (this.spec 𝓤 H (𝓖 .A) (𝓜 .mem) (𝓡 .run)))
     (tables 𝓤 H 𝓜 𝓡 code.env .C) (tables 𝓤 H 𝓜 𝓡 code.env .Λ) #run code.function (code.unfolded 𝓤 H 𝓜 𝓡)
     (run-meets 𝓤 H (𝓖 .A) (givenOf 𝓤 H 𝓜 𝓖) (𝓜 .mem) (𝓡 .run) (tablesOf 𝓤 H 𝓜 (tables 𝓤 H 𝓜 𝓡 code.env))
-    (cited 𝓤 H (First 𝓤 H (𝓖 .A) (𝓜 .mem) (𝓡 .run)) 𝓜 𝓡 code.env #lent·first first-def.routine code.calls-lent·first (first-thm.met 𝓤 H 𝓜 𝓖 𝓡))
+    (cited 𝓤 H (First 𝓤 H (𝓖 .A) (𝓜 .mem) (𝓡 .run)) 𝓜 𝓡 code.env #copies·first first-def.routine code.calls-copies·first (first-thm.met 𝓤 H 𝓜 𝓖 𝓡))
     (cited 𝓤 H (Callee 𝓤 H (𝓖 .A) (𝓜 .mem) (𝓡 .run)) 𝓜 𝓡 code.env #callee callee-def.routine code.calls-runner·run (callee-thm.met 𝓤 H 𝓜 𝓖 𝓡)))

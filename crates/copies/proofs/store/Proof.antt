@@ -1,4 +1,4 @@
--- `lent::store` meets its contract: a walk of its MIR, by hand, with a loop and a call in it. The borrow is opened once, before the loop, and closed once, after it.
+-- `copies::store` meets its contract: a walk of its MIR, by hand, with a loop and a call in it. The borrow is opened once, before the loop, and closed once, after it.
 use mathlib.Core.Path.{_≡_, refl, sym, ap, _∙_, subst}
 use Prim.Native.Nat.{ℕ, zero, suc, _+_, _≤_, _<_, _*_, _^_}
 use native.Mathlib.Nat.{add-zero, add-suc, suc-add, zero-add, lt-irrefl, lt-suc-self}
@@ -50,18 +50,18 @@ use denote.Triple.Walked.{says, needs, Stays, stay-slice, stay-none, walkOf, goe
 use denote.Exit.{yes}
 use Rattle.document.specs.Routine.{blank}
 use Rattle.document.specs.declared.Wire.{Wire}
-use Rattle.lent.proofs.Lists.{mix, mix-more, length-mix, holds, fails}
+use Rattle.copies.proofs.Lists.{mix, mix-more, length-mix, holds, fails}
 use Rattle.document.proofs.Wire as T
 use Rattle.document.proofs.Wire.Laws as T′
-use Rattle.lent.proofs.record_at as pick-at
-use Rattle.lent.proofs.record_at.Symbol as pick-def
-use Rattle.lent.proofs.record_at.Symbol.{name as #lent·record-at}
-use Rattle.lent.proofs.record_at.Met as pick-thm
-use Rattle.lent.proofs.store.Key.{name as #lent·store}
-use Rattle.lent.proofs.store as store′
-use Rattle.lent.proofs.store.Statement as stated
-use Rattle.lent.proofs.store.Code as code
-use Rattle.lent.proofs.store.Code.Mir as mir′
+use Rattle.copies.proofs.record_at as pick-at
+use Rattle.copies.proofs.record_at.Symbol as pick-def
+use Rattle.copies.proofs.record_at.Symbol.{name as #copies·record-at}
+use Rattle.copies.proofs.record_at.Met as pick-thm
+use Rattle.copies.proofs.store.Key.{name as #copies·store}
+use Rattle.copies.proofs.store as store′
+use Rattle.copies.proofs.store.Statement as stated
+use Rattle.copies.proofs.store.Code as code
+use Rattle.copies.proofs.store.Code.Mir as mir′
 
 abbrev word : Ty
 word = tyInt w64
@@ -127,7 +127,7 @@ module _ {M : Type 1} (𝓤 : URA M) (H : Heap 𝓤) (A : Atoms 𝓤) (W : Given
     said : (i : ℕ) (r : Wire) → ent 𝓤 (ensured 𝓤 H A pick-at.ended (pick-at.clauses 𝓤 H A mem run) tt (ws, (i, tt)) tt r) (fact 𝓤 (r ≡ getD ws i blank))
     said i r = exE 𝓤 _ (λ us. snd∗ 𝓤 (sem 𝓤 H A (lasts pick-at.ended tt (ws, (i, tt)) us)) (fact 𝓤 (r ≡ getD ws i blank)))
 
-    module _ (𝓣 : Tables 𝓤 H) (fm : FmC 𝓤 H (W .laws) (𝓣 .C)) (known : Triple 𝓤 (𝓣 .C #lent·record-at) (At-contract 𝓤 H A mem run)) (l₀ l₁ l₂ l₃ l₄ l₅ l₆ l₇ l₈ : ℕ) where
+    module _ (𝓣 : Tables 𝓤 H) (fm : FmC 𝓤 H (W .laws) (𝓣 .C)) (known : Triple 𝓤 (𝓣 .C #copies·record-at) (At-contract 𝓤 H A mem run)) (l₀ l₁ l₂ l₃ l₄ l₅ l₆ l₇ l₈ : ℕ) where
       abbrev En : Env 𝓤 H
       En = (tyUnit, l₀) ∷ (slice, l₁) ∷ (arr, l₂) ∷ (word, l₃) ∷ (word, l₄) ∷ (tyBool, l₅) ∷ (T′.mir, l₆) ∷ (word, l₇) ∷ (tyPtr, l₈) ∷ []
 
@@ -225,7 +225,7 @@ module _ {M : Type 1} (𝓤 : URA M) (H : Heap 𝓤) (A : Atoms 𝓤) (W : Given
       loops : ent 𝓤 (⋆ 𝓤 H A (Here 0)) (Wp 𝓤 H (𝓣 .C) (𝓣 .Λ) En (loop mir′.turn-1) Left)
       loops = via 𝓤 (Inv n) (held n 0 (zero-add n)) (loop-rule 𝓤 H (W .laws) 𝓣 _<_ (Nat·lt-wfRel .wf) En mir′.turn-1 Left Inv turns n)
 
-    walk : (𝓣 : Tables 𝓤 H) (fm : FmC 𝓤 H (W .laws) (𝓣 .C)) (known : Triple 𝓤 (𝓣 .C #lent·record-at) (At-contract 𝓤 H A mem run)) → ent 𝓤 (onEntry 𝓤 H A store′.signature (κ, tt) (q, tt) x at)
+    walk : (𝓣 : Tables 𝓤 H) (fm : FmC 𝓤 H (W .laws) (𝓣 .C)) (known : Triple 𝓤 (𝓣 .C #copies·record-at) (At-contract 𝓤 H A mem run)) → ent 𝓤 (onEntry 𝓤 H A store′.signature (κ, tt) (q, tt) x at)
         (WpFn 𝓤 H (𝓣 .C) (𝓣 .Λ) code.function (sliceVal (b, o) (length ys) ∷ only vals ∷ vint w64 n ∷ []) Post)
     walk 𝓣 fm known =
         qed W ((‵ (flft κ q) ⊛ ‵ ftrue) ∷ ‵ (owns (MutSlice (named 0) κ T.the-row ∷ Array T.the-row 128 ∷ usize ∷ []) x at) ∷ []) ∵ enter ! (𝓣 .C) (𝓣 .Λ) code.function (sliceVal (b, o) (length ys) ∷ only vals ∷ vint w64 n ∷ []) _ $
@@ -237,13 +237,13 @@ module _ {M : Type 1} (𝓤 : URA M) (H : Heap 𝓤) (A : Atoms 𝓤) (W : Given
         keep ! (0 ∷ 15 ∷ 13 ∷ 11 ∷ 9 ∷ 7 ∷ 21 ∷ 19 ∷ 17 ∷ 23 ∷ 1 ∷ 2 ∷ 3 ∷ 24 ∷ 22 ∷ 20 ∷ 18 ∷ 16 ∷ 14 ∷ 12 ∷ 10 ∷ 8 ∷ []) $ by ! (loops 𝓣 fm known l₀ l₁ l₂ l₃ l₄ l₅ l₆ l₇ l₈))))))))))
 
 module _ {M : Type 1} (𝓤 : URA M) (H : Heap 𝓤) (A : Atoms 𝓤) (W : Given 𝓤 H A) (mem : Memory → SProp 𝓤) (run : Routine → Fun 𝓤) where
-  store-walks : (𝓣 : Tables 𝓤 H) → FmC 𝓤 H (W .laws) (𝓣 .C) → Triple 𝓤 (𝓣 .C #lent·record-at) (At-contract 𝓤 H A mem run) → Walks 𝓤 H A store′.ended stayed (WpFn 𝓤 H (𝓣 .C) (𝓣 .Λ) code.function) (store′.clauses 𝓤 H A mem run)
+  store-walks : (𝓣 : Tables 𝓤 H) → FmC 𝓤 H (W .laws) (𝓣 .C) → Triple 𝓤 (𝓣 .C #copies·record-at) (At-contract 𝓤 H A mem run) → Walks 𝓤 H A store′.ended stayed (WpFn 𝓤 H (𝓣 .C) (𝓣 .Λ) code.function) (store′.clauses 𝓤 H A mem run)
   store-walks 𝓣 fm known = walked 𝓤 H A store′.ended stayed (store′.clauses 𝓤 H A mem run) (WpFn 𝓤 H (𝓣 .C) (𝓣 .Λ) code.function)
       (λ κs. (slice-vals, (array-vals (LL.vals T.the-type T′.the-laws), (uint-vals w64, tt)))) (λ κs. (mut-slice-tells (named 0) (κs .0) T.the-row, (array-tells T.the-row (LL.vals T.the-type T′.the-laws) (LL.tells T.the-type T′.the-laws) 128, (uint-tells w64, tt))))
       (λ κs qs bounds a g are. needs 𝓤 ((a .1 .1 .0 ≤ 128) × (a .1 .1 .0 ≤ length (now (a .0)))) _ (λ h.
       walk 𝓤 H A W mem run (κs .0) (qs .0) (a .0 .ptr .0) (a .0 .ptr .1) (a .0 .name) (a .0 .now) (a .1 .0) (a .1 .1 .0) (are .0 .0 .1) (are .1 .1 .0 .1) (h .1) (h .0) (are .1 .0) 𝓣 fm known))
 
-store-meets : {M : Type 1} (𝓤 : URA M) (H : Heap 𝓤) (A : Atoms 𝓤) → Given 𝓤 H A → (mem : Memory → SProp 𝓤) (run : Routine → Fun 𝓤) (𝓣 : Tables 𝓤 H) → Triple 𝓤 (𝓣 .C #lent·record-at) (At-contract 𝓤 H A mem run)
+store-meets : {M : Type 1} (𝓤 : URA M) (H : Heap 𝓤) (A : Atoms 𝓤) → Given 𝓤 H A → (mem : Memory → SProp 𝓤) (run : Routine → Fun 𝓤) (𝓣 : Tables 𝓤 H) → Triple 𝓤 (𝓣 .C #copies·record-at) (At-contract 𝓤 H A mem run)
     → Meets 𝓤 H A store′.signature (WpFn 𝓤 H (𝓣 .C) (𝓣 .Λ) code.function) (store′.spec 𝓤 H A mem run)
 store-meets 𝓤 H A W mem run 𝓣 known =
     walk-meets 𝓤 H A store′.ended stayed W (goes-slice 𝓤 H A W 1 0 tt (plain (λ _. T.the-row)), (goes-none 𝓤 H A W 1 (λ _. Array T.the-row 128) yes (λ κs x f. refl), (goes-none 𝓤 H A W 1 (λ _. usize) yes (λ κs x f. refl), tt))) (store′.clauses 𝓤 H A mem run)
@@ -253,6 +253,6 @@ pub store-spec : {M : Type 1} → stated.statement M
 unfolding code.routine tablesOf
 store-spec 𝓤 H 𝓜 𝓖 𝓡 =
     entered 𝓤 H (tripleOf 𝓤 H (𝓖 .A) store′.signature (store′.spec 𝓤 H (𝓖 .A) (𝓜 .mem) (𝓡 .run)))
-    (tables 𝓤 H 𝓜 𝓡 code.env .C) (tables 𝓤 H 𝓜 𝓡 code.env .Λ) #lent·store code.function (code.unfolded 𝓤 H 𝓜 𝓡)
+    (tables 𝓤 H 𝓜 𝓡 code.env .C) (tables 𝓤 H 𝓜 𝓡 code.env .Λ) #copies·store code.function (code.unfolded 𝓤 H 𝓜 𝓡)
     (store-meets 𝓤 H (𝓖 .A) (givenOf 𝓤 H 𝓜 𝓖) (𝓜 .mem) (𝓡 .run) (tablesOf 𝓤 H 𝓜 (tables 𝓤 H 𝓜 𝓡 code.env))
-    (cited 𝓤 H (At-contract 𝓤 H (𝓖 .A) (𝓜 .mem) (𝓡 .run)) 𝓜 𝓡 code.env #lent·record-at pick-def.routine code.calls-lent·record-at (pick-thm.met 𝓤 H 𝓜 𝓖 𝓡)))
+    (cited 𝓤 H (At-contract 𝓤 H (𝓖 .A) (𝓜 .mem) (𝓡 .run)) 𝓜 𝓡 code.env #copies·record-at pick-def.routine code.calls-copies·record-at (pick-thm.met 𝓤 H 𝓜 𝓖 𝓡)))

@@ -1,8 +1,8 @@
--- `lent::no_records` meets its contract.
+-- `copies::no_records` meets its contract.
 use mathlib.Core.Path.{refl}
 use Rattle.document.specs.Reading.{blanks}
-use Rattle.lent.proofs.no_records.Statement.{statement}
-use Rattle.lent.proofs.no_records.Tie as tie
+use Rattle.copies.proofs.no_records.Statement.{statement}
+use Rattle.copies.proofs.no_records.Tie as tie
 
 returns : tie.Need-returns
 unfolding blanks

@@ -1,9 +1,9 @@
--- `lent::clip` meets its contract.
+-- `copies::clip` meets its contract.
 use borrow.Author.Needs.{needs}
 use borrow.Author.Tests.{le-leb, lt-leb}
-use Rattle.lent.specs.First.{clipped}
-use Rattle.lent.proofs.clip.Statement.{statement}
-use Rattle.lent.proofs.clip.Tie as tie
+use Rattle.copies.specs.First.{clipped}
+use Rattle.copies.proofs.clip.Statement.{statement}
+use Rattle.copies.proofs.clip.Tie as tie
 
 returns : tie.Need-returns
 unfolding clipped

@@ -1,4 +1,4 @@
--- `lent::fetch` meets its contract: a walk of its MIR, by hand, with a loop and two calls in it. The slice is looked into once, before the loop, and shut once, after it.
+-- `copies::fetch` meets its contract: a walk of its MIR, by hand, with a loop and two calls in it. The slice is looked into once, before the loop, and shut once, after it.
 use mathlib.Core.Path.{_≡_, refl, sym, ap, _∙_, subst}
 use Prim.Native.Nat.{ℕ, zero, suc, _+_, _≤_, _<_, _*_, _^_}
 use native.Mathlib.Nat.{add-zero, add-suc, suc-add, zero-add, lt-irrefl, lt-suc-self}
@@ -50,23 +50,23 @@ use denote.Exit.{yes}
 use Rattle.document.specs.Routine.{blank}
 use Rattle.document.specs.Reading.{blanks}
 use Rattle.document.specs.declared.Wire.{Wire}
-use Rattle.lent.specs.First.{length-blanks}
-use Rattle.lent.proofs.Lists.{mix, mix-more, holds, fails}
+use Rattle.copies.specs.First.{length-blanks}
+use Rattle.copies.proofs.Lists.{mix, mix-more, holds, fails}
 use Rattle.document.proofs.Wire as T
 use Rattle.document.proofs.Wire.Laws as T′
-use Rattle.lent.proofs.with_record as with′
-use Rattle.lent.proofs.with_record.Symbol as with-def
-use Rattle.lent.proofs.with_record.Symbol.{name as #lent·with-record}
-use Rattle.lent.proofs.with_record.Met as with-thm
-use Rattle.lent.proofs.no_records as none
-use Rattle.lent.proofs.no_records.Symbol as none-def
-use Rattle.lent.proofs.no_records.Symbol.{name as #lent·no-records}
-use Rattle.lent.proofs.no_records.Met as none-thm
-use Rattle.lent.proofs.fetch.Key.{name as #lent·fetch}
-use Rattle.lent.proofs.fetch as fetch
-use Rattle.lent.proofs.fetch.Statement as stated
-use Rattle.lent.proofs.fetch.Code as code
-use Rattle.lent.proofs.fetch.Code.Mir as mir′
+use Rattle.copies.proofs.with_record as with′
+use Rattle.copies.proofs.with_record.Symbol as with-def
+use Rattle.copies.proofs.with_record.Symbol.{name as #copies·with-record}
+use Rattle.copies.proofs.with_record.Met as with-thm
+use Rattle.copies.proofs.no_records as none
+use Rattle.copies.proofs.no_records.Symbol as none-def
+use Rattle.copies.proofs.no_records.Symbol.{name as #copies·no-records}
+use Rattle.copies.proofs.no_records.Met as none-thm
+use Rattle.copies.proofs.fetch.Key.{name as #copies·fetch}
+use Rattle.copies.proofs.fetch as fetch
+use Rattle.copies.proofs.fetch.Statement as stated
+use Rattle.copies.proofs.fetch.Code as code
+use Rattle.copies.proofs.fetch.Code.Mir as mir′
 
 abbrev word : Ty
 word = tyInt w64
@@ -153,7 +153,7 @@ module _ {M : Type 1} (𝓤 : URA M) (H : Heap 𝓤) (A : Atoms 𝓤) (W : Given
   said-blanks : (r : List Wire) → ent 𝓤 (ensured 𝓤 H A none.ended (none.clauses 𝓤 H A mem run) tt tt tt r) (fact 𝓤 (r ≡ bl))
   said-blanks r = exE 𝓤 _ (λ us. snd∗ 𝓤 (sem 𝓤 H A (lasts none.ended tt tt us)) (fact 𝓤 (r ≡ bl)))
 
-  module _ (𝓣 : Tables 𝓤 H) (fm : FmC 𝓤 H (W .laws) (𝓣 .C)) (known : Triple 𝓤 (𝓣 .C #lent·with-record) (With 𝓤 H A mem run)) (q′ : Share) (l₀ l₁ l₂ l₃ l₄ l₅ l₆ l₇ l₈ : ℕ) where
+  module _ (𝓣 : Tables 𝓤 H) (fm : FmC 𝓤 H (W .laws) (𝓣 .C)) (known : Triple 𝓤 (𝓣 .C #copies·with-record) (With 𝓤 H A mem run)) (q′ : Share) (l₀ l₁ l₂ l₃ l₄ l₅ l₆ l₇ l₈ : ℕ) where
     abbrev En : Env 𝓤 H
     En = (arr, l₀) ∷ (slice, l₁) ∷ (word, l₂) ∷ (arr, l₃) ∷ (word, l₄) ∷ (tyBool, l₅) ∷ (word, l₆) ∷ (tyPtr, l₇) ∷ (T′.mir, l₈) ∷ []
 
@@ -253,7 +253,7 @@ module _ {M : Type 1} (𝓤 : URA M) (H : Heap 𝓤) (A : Atoms 𝓤) (W : Given
     loops : Is Arr bl (avs bl) → ent 𝓤 (⋆ 𝓤 H A (Here 0)) (Wp 𝓤 H (𝓣 .C) (𝓣 .Λ) En (loop mir′.turn-1) Left)
     loops g = via 𝓤 (Inv n) (held n 0 (zero-add n, g)) (loop-rule 𝓤 H (W .laws) 𝓣 _<_ (Nat·lt-wfRel .wf) En mir′.turn-1 Left Inv turns n)
 
-  walk : (𝓣 : Tables 𝓤 H) (fm : FmC 𝓤 H (W .laws) (𝓣 .C)) → Triple 𝓤 (𝓣 .C #lent·with-record) (With 𝓤 H A mem run) → Triple 𝓤 (𝓣 .C #lent·no-records) (Blanks 𝓤 H A mem run) → ent 𝓤 (onEntry 𝓤 H A fetch.signature (κ, tt) (q, tt) x at)
+  walk : (𝓣 : Tables 𝓤 H) (fm : FmC 𝓤 H (W .laws) (𝓣 .C)) → Triple 𝓤 (𝓣 .C #copies·with-record) (With 𝓤 H A mem run) → Triple 𝓤 (𝓣 .C #copies·no-records) (Blanks 𝓤 H A mem run) → ent 𝓤 (onEntry 𝓤 H A fetch.signature (κ, tt) (q, tt) x at)
       (WpFn 𝓤 H (𝓣 .C) (𝓣 .Λ) code.function (sliceVal (b, o) (length ys) ∷ vint w64 n ∷ []) Post)
   walk 𝓣 fm known known-blanks =
       qed W ((‵ (flft κ q) ⊛ ‵ ftrue) ∷ ‵ (owns (ShrSlice (named 0) κ T.the-row ∷ usize ∷ []) x at) ∷ []) ∵ enter ! (𝓣 .C) (𝓣 .Λ) code.function (sliceVal (b, o) (length ys) ∷ vint w64 n ∷ []) _ $
@@ -275,13 +275,13 @@ module _ {M : Type 1} (𝓤 : URA M) (H : Heap 𝓤) (A : Atoms 𝓤) (W : Given
       by ! (loops 𝓣 fm known q′ l₀ l₁ l₂ l₃ l₄ l₅ l₆ l₇ l₈ (subst (λ (m : List Wire). Is Arr m (avs m)) e (subst (λ (us : List Val). Is Arr r us) (tells r (u ∷ []) is) is)))))))))))))))))
 
 module _ {M : Type 1} (𝓤 : URA M) (H : Heap 𝓤) (A : Atoms 𝓤) (W : Given 𝓤 H A) (mem : Memory → SProp 𝓤) (run : Routine → Fun 𝓤) where
-  fetch-walks : (𝓣 : Tables 𝓤 H) → FmC 𝓤 H (W .laws) (𝓣 .C) → Triple 𝓤 (𝓣 .C #lent·with-record) (With 𝓤 H A mem run) → Triple 𝓤 (𝓣 .C #lent·no-records) (Blanks 𝓤 H A mem run) → Walks 𝓤 H A fetch.ended stayed (WpFn 𝓤 H (𝓣 .C) (𝓣 .Λ) code.function) (fetch.clauses 𝓤 H A mem run)
+  fetch-walks : (𝓣 : Tables 𝓤 H) → FmC 𝓤 H (W .laws) (𝓣 .C) → Triple 𝓤 (𝓣 .C #copies·with-record) (With 𝓤 H A mem run) → Triple 𝓤 (𝓣 .C #copies·no-records) (Blanks 𝓤 H A mem run) → Walks 𝓤 H A fetch.ended stayed (WpFn 𝓤 H (𝓣 .C) (𝓣 .Λ) code.function) (fetch.clauses 𝓤 H A mem run)
   fetch-walks 𝓣 fm known known-blanks = walked 𝓤 H A fetch.ended stayed (fetch.clauses 𝓤 H A mem run) (WpFn 𝓤 H (𝓣 .C) (𝓣 .Λ) code.function)
       (λ κs. (slice-vals, (uint-vals w64, tt))) (λ κs. (shr-slice-tells (named 0) (κs .0) T.the-row, (uint-tells w64, tt)))
       (λ κs qs bounds a g are. needs 𝓤 ((a .1 .0 ≤ 128) × (a .1 .0 ≤ length (now (a .0)))) _ (λ h.
       walk 𝓤 H A W mem run (κs .0) (qs .0) (a .0 .ptr .0) (a .0 .ptr .1) (a .0 .name) (a .0 .now) (a .1 .0) (are .0 .0 .1) (are .1 .0 .1) (h .1) (h .0) 𝓣 fm known known-blanks))
 
-fetch-meets : {M : Type 1} (𝓤 : URA M) (H : Heap 𝓤) (A : Atoms 𝓤) → Given 𝓤 H A → (mem : Memory → SProp 𝓤) (run : Routine → Fun 𝓤) (𝓣 : Tables 𝓤 H) → Triple 𝓤 (𝓣 .C #lent·with-record) (With 𝓤 H A mem run) → Triple 𝓤 (𝓣 .C #lent·no-records) (Blanks 𝓤 H A mem run)
+fetch-meets : {M : Type 1} (𝓤 : URA M) (H : Heap 𝓤) (A : Atoms 𝓤) → Given 𝓤 H A → (mem : Memory → SProp 𝓤) (run : Routine → Fun 𝓤) (𝓣 : Tables 𝓤 H) → Triple 𝓤 (𝓣 .C #copies·with-record) (With 𝓤 H A mem run) → Triple 𝓤 (𝓣 .C #copies·no-records) (Blanks 𝓤 H A mem run)
     → Meets 𝓤 H A fetch.signature (WpFn 𝓤 H (𝓣 .C) (𝓣 .Λ) code.function) (fetch.spec 𝓤 H A mem run)
 fetch-meets 𝓤 H A W mem run 𝓣 known known-blanks =
     walk-meets 𝓤 H A fetch.ended stayed W (goes-none-slice 𝓤 H A W 1 (0 ∷ []) tt (plain (λ _. T.the-row)) yes, (goes-none 𝓤 H A W 1 (λ _. usize) yes (λ κs x f. refl), tt)) (fetch.clauses 𝓤 H A mem run)
@@ -291,7 +291,7 @@ pub fetch-spec : {M : Type 1} → stated.statement M
 unfolding code.routine tablesOf
 fetch-spec 𝓤 H 𝓜 𝓖 𝓡 =
     entered 𝓤 H (tripleOf 𝓤 H (𝓖 .A) fetch.signature (fetch.spec 𝓤 H (𝓖 .A) (𝓜 .mem) (𝓡 .run)))
-    (tables 𝓤 H 𝓜 𝓡 code.env .C) (tables 𝓤 H 𝓜 𝓡 code.env .Λ) #lent·fetch code.function (code.unfolded 𝓤 H 𝓜 𝓡)
+    (tables 𝓤 H 𝓜 𝓡 code.env .C) (tables 𝓤 H 𝓜 𝓡 code.env .Λ) #copies·fetch code.function (code.unfolded 𝓤 H 𝓜 𝓡)
     (fetch-meets 𝓤 H (𝓖 .A) (givenOf 𝓤 H 𝓜 𝓖) (𝓜 .mem) (𝓡 .run) (tablesOf 𝓤 H 𝓜 (tables 𝓤 H 𝓜 𝓡 code.env))
-    (cited 𝓤 H (With 𝓤 H (𝓖 .A) (𝓜 .mem) (𝓡 .run)) 𝓜 𝓡 code.env #lent·with-record with-def.routine code.calls-lent·with-record (with-thm.met 𝓤 H 𝓜 𝓖 𝓡))
-    (cited 𝓤 H (Blanks 𝓤 H (𝓖 .A) (𝓜 .mem) (𝓡 .run)) 𝓜 𝓡 code.env #lent·no-records none-def.routine code.calls-lent·no-records (none-thm.met 𝓤 H 𝓜 𝓖 𝓡)))
+    (cited 𝓤 H (With 𝓤 H (𝓖 .A) (𝓜 .mem) (𝓡 .run)) 𝓜 𝓡 code.env #copies·with-record with-def.routine code.calls-copies·with-record (with-thm.met 𝓤 H 𝓜 𝓖 𝓡))
+    (cited 𝓤 H (Blanks 𝓤 H (𝓖 .A) (𝓜 .mem) (𝓡 .run)) 𝓜 𝓡 code.env #copies·no-records none-def.routine code.calls-copies·no-records (none-thm.met 𝓤 H 𝓜 𝓖 𝓡)))

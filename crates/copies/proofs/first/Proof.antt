@@ -1,4 +1,4 @@
--- `lent::first` meets its contract: a walk of its MIR, by hand: two calls, of which one is passed the slice.
+-- `copies::first` meets its contract: a walk of its MIR, by hand: two calls, of which one is passed the slice.
 use mathlib.Core.Path.{_≡_, refl, ap, _∙_}
 use Prim.Native.Nat.{ℕ, _≤_, _<_, _^_}
 use mathlib.Core.List.{[], _∷_, List}
@@ -37,22 +37,22 @@ use denote.Triple.Spec.{Meets, tripleOf}
 use denote.Triple.Table.{entered, cited}
 use denote.Triple.Walked.{says, Stays, stay-none-slice, stay-none, walkOf, goes-none-slice, goes-none, Walks, ends-at, walked, walk-meets}
 use denote.Exit.{yes}
-use Rattle.lent.specs.First.{fetched, clipped, firstOf}
+use Rattle.copies.specs.First.{fetched, clipped, firstOf}
 use Rattle.document.specs.declared.Wire.{Wire}
 use Rattle.document.proofs.Wire as T
 use Rattle.document.proofs.Wire.Laws as T′
-use Rattle.lent.proofs.clip as clip
-use Rattle.lent.proofs.clip.Symbol as clip-def
-use Rattle.lent.proofs.clip.Symbol.{name as #lent·clip}
-use Rattle.lent.proofs.clip.Met as clip-thm
-use Rattle.lent.proofs.fetch as fetch
-use Rattle.lent.proofs.fetch.Symbol as fetch-def
-use Rattle.lent.proofs.fetch.Symbol.{name as #lent·fetch}
-use Rattle.lent.proofs.fetch.Met as fetch-thm
-use Rattle.lent.proofs.first.Key.{name as #lent·first}
-use Rattle.lent.proofs.first as first
-use Rattle.lent.proofs.first.Statement as stated
-use Rattle.lent.proofs.first.Code as code
+use Rattle.copies.proofs.clip as clip
+use Rattle.copies.proofs.clip.Symbol as clip-def
+use Rattle.copies.proofs.clip.Symbol.{name as #copies·clip}
+use Rattle.copies.proofs.clip.Met as clip-thm
+use Rattle.copies.proofs.fetch as fetch
+use Rattle.copies.proofs.fetch.Symbol as fetch-def
+use Rattle.copies.proofs.fetch.Symbol.{name as #copies·fetch}
+use Rattle.copies.proofs.fetch.Met as fetch-thm
+use Rattle.copies.proofs.first.Key.{name as #copies·first}
+use Rattle.copies.proofs.first as first
+use Rattle.copies.proofs.first.Statement as stated
+use Rattle.copies.proofs.first.Code as code
 
 abbrev Arr : RattleType
 Arr = Array T.the-row 128
@@ -115,7 +115,7 @@ module _ {M : Type 1} (𝓤 : URA M) (H : Heap 𝓤) (A : Atoms 𝓤) (W : Given
   said-fetch : (k : ℕ) (r : List Wire) → ent 𝓤 (ensured 𝓤 H A fetch.ended (fetch.clauses 𝓤 H A mem run) (κ, tt) (ref, (k, tt)) tt r) (fact 𝓤 (r ≡ fetched k ys))
   said-fetch k r = exE 𝓤 _ (λ us. snd∗ 𝓤 (sem 𝓤 H A (lasts fetch.ended (κ, tt) (ref, (k, tt)) us)) (fact 𝓤 (r ≡ fetched k ys)))
 
-  walk : (C : Calls 𝓤 H) (Λ : Loops 𝓤 H) (fm : FmC 𝓤 H (W .laws) C) → Triple 𝓤 (C #lent·clip) (Clip 𝓤 H A mem run) → Triple 𝓤 (C #lent·fetch) (Fetch 𝓤 H A mem run)
+  walk : (C : Calls 𝓤 H) (Λ : Loops 𝓤 H) (fm : FmC 𝓤 H (W .laws) C) → Triple 𝓤 (C #copies·clip) (Clip 𝓤 H A mem run) → Triple 𝓤 (C #copies·fetch) (Fetch 𝓤 H A mem run)
       → ent 𝓤 (onEntry 𝓤 H A first.signature (κ, tt) (q, tt) x at) (WpFn 𝓤 H C Λ code.function (sliceVal (b, o) (length ys) ∷ vint w64 n ∷ []) Post)
   unfolding firstOf
   walk C Λ fm known-clip known-fetch =
@@ -146,13 +146,13 @@ module _ {M : Type 1} (𝓤 : URA M) (H : Heap 𝓤) (A : Atoms 𝓤) (W : Given
       keep ! (1 ∷ 2 ∷ []) $ by ! (exits m u₂ (e ∙ ap (λ (j : ℕ). fetched j ys) (c .0)) ism))))))))))))))
 
 module _ {M : Type 1} (𝓤 : URA M) (H : Heap 𝓤) (A : Atoms 𝓤) (W : Given 𝓤 H A) (mem : Memory → SProp 𝓤) (run : Routine → Fun 𝓤) where
-  first-walks : (C : Calls 𝓤 H) (Λ : Loops 𝓤 H) → FmC 𝓤 H (W .laws) C → Triple 𝓤 (C #lent·clip) (Clip 𝓤 H A mem run) → Triple 𝓤 (C #lent·fetch) (Fetch 𝓤 H A mem run)
+  first-walks : (C : Calls 𝓤 H) (Λ : Loops 𝓤 H) → FmC 𝓤 H (W .laws) C → Triple 𝓤 (C #copies·clip) (Clip 𝓤 H A mem run) → Triple 𝓤 (C #copies·fetch) (Fetch 𝓤 H A mem run)
       → Walks 𝓤 H A first.ended stayed (WpFn 𝓤 H C Λ code.function) (first.clauses 𝓤 H A mem run)
   first-walks C Λ fm k₁ k₂ = walked 𝓤 H A first.ended stayed (first.clauses 𝓤 H A mem run) (WpFn 𝓤 H C Λ code.function)
       (λ κs. (slice-vals, (uint-vals w64, tt))) (λ κs. (shr-slice-tells (named 0) (κs .0) T.the-row, (uint-tells w64, tt)))
       (λ κs qs bounds a g are. via 𝓤 _ (fst∗ 𝓤 _ (emp 𝓤)) (walk 𝓤 H A W mem run (κs .0) (qs .0) (a .0 .ptr .0) (a .0 .ptr .1) (a .0 .name) (a .0 .now) (a .1 .0) (are .0 .0 .1) (are .1 .0 .1) C Λ fm k₁ k₂))
 
-first-meets : {M : Type 1} (𝓤 : URA M) (H : Heap 𝓤) (A : Atoms 𝓤) → Given 𝓤 H A → (mem : Memory → SProp 𝓤) (run : Routine → Fun 𝓤) (𝓣 : Tables 𝓤 H) → Triple 𝓤 (𝓣 .C #lent·clip) (Clip 𝓤 H A mem run) → Triple 𝓤 (𝓣 .C #lent·fetch) (Fetch 𝓤 H A mem run)
+first-meets : {M : Type 1} (𝓤 : URA M) (H : Heap 𝓤) (A : Atoms 𝓤) → Given 𝓤 H A → (mem : Memory → SProp 𝓤) (run : Routine → Fun 𝓤) (𝓣 : Tables 𝓤 H) → Triple 𝓤 (𝓣 .C #copies·clip) (Clip 𝓤 H A mem run) → Triple 𝓤 (𝓣 .C #copies·fetch) (Fetch 𝓤 H A mem run)
     → Meets 𝓤 H A first.signature (WpFn 𝓤 H (𝓣 .C) (𝓣 .Λ) code.function) (first.spec 𝓤 H A mem run)
 first-meets 𝓤 H A W mem run 𝓣 k₁ k₂ =
     walk-meets 𝓤 H A first.ended stayed W (goes-none-slice 𝓤 H A W 1 (0 ∷ []) tt (plain (λ _. T.the-row)) yes, (goes-none 𝓤 H A W 1 (λ _. usize) yes (λ κs x f. refl), tt)) (first.clauses 𝓤 H A mem run)
@@ -162,7 +162,7 @@ pub first-spec : {M : Type 1} → stated.statement M
 unfolding code.routine tablesOf
 first-spec 𝓤 H 𝓜 𝓖 𝓡 =
     entered 𝓤 H (tripleOf 𝓤 H (𝓖 .A) first.signature (first.spec 𝓤 H (𝓖 .A) (𝓜 .mem) (𝓡 .run)))
-    (tables 𝓤 H 𝓜 𝓡 code.env .C) (tables 𝓤 H 𝓜 𝓡 code.env .Λ) #lent·first code.function (code.unfolded 𝓤 H 𝓜 𝓡)
+    (tables 𝓤 H 𝓜 𝓡 code.env .C) (tables 𝓤 H 𝓜 𝓡 code.env .Λ) #copies·first code.function (code.unfolded 𝓤 H 𝓜 𝓡)
     (first-meets 𝓤 H (𝓖 .A) (givenOf 𝓤 H 𝓜 𝓖) (𝓜 .mem) (𝓡 .run) (tablesOf 𝓤 H 𝓜 (tables 𝓤 H 𝓜 𝓡 code.env))
-    (cited 𝓤 H (Clip 𝓤 H (𝓖 .A) (𝓜 .mem) (𝓡 .run)) 𝓜 𝓡 code.env #lent·clip clip-def.routine code.calls-lent·clip (clip-thm.met 𝓤 H 𝓜 𝓖 𝓡))
-    (cited 𝓤 H (Fetch 𝓤 H (𝓖 .A) (𝓜 .mem) (𝓡 .run)) 𝓜 𝓡 code.env #lent·fetch fetch-def.routine code.calls-lent·fetch (fetch-thm.met 𝓤 H 𝓜 𝓖 𝓡)))
+    (cited 𝓤 H (Clip 𝓤 H (𝓖 .A) (𝓜 .mem) (𝓡 .run)) 𝓜 𝓡 code.env #copies·clip clip-def.routine code.calls-copies·clip (clip-thm.met 𝓤 H 𝓜 𝓖 𝓡))
+    (cited 𝓤 H (Fetch 𝓤 H (𝓖 .A) (𝓜 .mem) (𝓡 .run)) 𝓜 𝓡 code.env #copies·fetch fetch-def.routine code.calls-copies·fetch (fetch-thm.met 𝓤 H 𝓜 𝓖 𝓡)))

@@ -1,0 +1,2 @@
+-- Laws of lists that the walks of this crate share.
+pub mod Lists

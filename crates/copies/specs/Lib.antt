@@ -1,0 +1,2 @@
+-- What an array by value holds of a lent list.
+pub mod First
