@@ -1,2 +1,3 @@
--- Laws of lists that the walks of this crate share.
+-- Laws of lists, and arrays of records by value, as the walks of this crate and of those above it share them.
 pub mod Lists
+pub mod Arrays

@@ -15,10 +15,8 @@ use ghost.Atoms.{Atoms, sem}
 use types.Kit.{Given, ‵, ⋆, later, _$_, _∵_, !, qed, by, move, drop as toss, use1, use3, rewrite, fsplit, fjoin, fpick, fpack, await, updating, now as at-once, done}
 use types.SemTy.{Arr as Cells}
 use types.Share.{PartsLaws, arr-parts, arr-laws}
-use denote.RattleType.{RattleType}
-use denote.Laws.{Is, Makes, Typed, shows}
+use denote.Laws.{Is, shows}
 use denote.Memory.{partOf, partAt, cellAt, mem, shares, share-laws}
-use denote.Array.{Array, array-vals, array-tells, array-typed, array-makes}
 use denote.ArrayMemory.{array-apart, array-whole}
 use denote.Ref.{RefT}
 use denote.Slice.{sliceVal, MutSlice, ShrSlice, Room, finally}
@@ -27,20 +25,12 @@ use denote.Steps.{only, owned, peeks}
 use denote.Struct.Laws as LL
 use Rattle.document.specs.declared.Wire.{Wire}
 use Rattle.document.proofs.Wire as T
+use Rattle.copies.proofs.Arrays.{Records, records-val, records-tells, records-makes}
 use Rattle.document.proofs.Wire.Laws as T′
 
--- the array by value, its machine value and its type
-abbrev pub Arr : ℕ → RattleType
-Arr n = Array T.the-row n
-
-abbrev pub arr-val : List Wire → List Val
-arr-val = array-vals (LL.vals T.the-type T′.the-laws)
-
+-- the type of the array in a local
 abbrev pub τ : ℕ → Ty
 τ n = tyArray T′.mir n
-
-pub arr-tells : (n : ℕ) (m : List Wire) (us : List Val) → Is (Arr n) m us → us ≡ arr-val m
-arr-tells n = array-tells T.the-row (LL.vals T.the-type T′.the-laws) (LL.tells T.the-type T′.the-laws) n
 
 -- the reference to a lent list of records m, which lie in the local l
 abbrev pub refTo : List Wire → ℕ → GName → RefT (List Wire)
@@ -64,28 +54,22 @@ module _ {M : Type 1} (𝓤 : URA M) (H : Heap 𝓤) (A : Atoms 𝓤) (W : Given
   abbrev ⟦_⟧ : Fml → SProp 𝓤
   ⟦ P ⟧ = sem 𝓤 H A P
 
-  pub arr-makes : (n : ℕ) → Makes 𝓤 H A (Arr n) (Is (Arr n))
-  arr-makes n = array-makes 𝓤 H A W T.the-row (LL.makes T.the-type T′.the-plain 𝓤 H A) n
-
-  pub arr-typed : (n : ℕ) (m : List Wire) (us : List Val) → Is (Arr n) m us → Typed (Arr n .mir) us
-  arr-typed n m us is = array-typed T.the-row (λ w vs g. LL.lawful T.the-type T′.the-laws 𝓤 H A W .typed w vs g) n m us is
-
   -- an array that was written whole lies side by side
-  pub beside : (n : ℕ) (m : List Wire) (u : Val) (l : ℕ) → Is (Arr n) m (u ∷ []) → ent 𝓤 ⟦ fat fullShare (τ n) l 0 u ⟧ ⟦ Beside n m l ⟧
+  pub beside : (n : ℕ) (m : List Wire) (u : Val) (l : ℕ) → Is (Records n) m (u ∷ []) → ent 𝓤 ⟦ fat fullShare (τ n) l 0 u ⟧ ⟦ Beside n m l ⟧
   unfolding partOf
   beside n m u l is =
       qed W (‵ (fat fullShare (τ n) l 0 u) ∷ []) ∵ use1 W (‵ (cellAt fullShare (τ n ∷ []) (u ∷ []) l 0)) (W .laws .at-raw fullShare (τ n) l 0 u) $
-      owned ! (Arr n) (Is (Arr n)) (arr-makes n) m _ is $ move ! (1 ∷ 0 ∷ []) $ fjoin ! $ fpack ! (List Val) (λ vs. fsep (cellAt fullShare (τ n ∷ []) vs l 0) (Arr n .own m vs)) (u ∷ []) $
+      owned ! (Records n) (Is (Records n)) (records-makes 𝓤 H A W n) m _ is $ move ! (1 ∷ 0 ∷ []) $ fjoin ! $ fpack ! (List Val) (λ vs. fsep (cellAt fullShare (τ n ∷ []) vs l 0) (Records n .own m vs)) (u ∷ []) $
       by ! (array-apart 𝓤 H A W T.the-row fullShare tt n m l 0)
 
   -- and records side by side are an array again
-  pub whole : (n : ℕ) (m : List Wire) (l : ℕ) → ent 𝓤 ⟦ Beside n m l ⟧ (sep 𝓤 ⟦ fat fullShare (τ n) l 0 (only (arr-val m)) ⟧ ⟦ Arr n .own m (arr-val m) ⟧)
+  pub whole : (n : ℕ) (m : List Wire) (l : ℕ) → ent 𝓤 ⟦ Beside n m l ⟧ (sep 𝓤 ⟦ fat fullShare (τ n) l 0 (only (records-val m)) ⟧ ⟦ Records n .own m (records-val m) ⟧)
   unfolding partOf
   whole n m l =
-      qed W (‵ (Beside n m l) ∷ []) ∵ use1 W (‵ (partAt (Arr n) fullShare m l 0)) (array-whole 𝓤 H A W T.the-row fullShare n m l 0) $ fpick ! (λ vs. fsplit ! $ move ! (1 ∷ []) $
-      peeks ! (Arr n) (Is (Arr n)) (shows 𝓤 H A (Arr n)) m vs (λ is.
-      rewrite ! 0 (λ (ws : List Val). ‵ (Arr n .own m ws)) (arr-tells n m vs is) refl $ rewrite ! 1 (λ (ws : List Val). ‵ (cellAt fullShare (τ n ∷ []) ws l 0)) (arr-tells n m vs is) refl $ move ! (1 ∷ []) $
-      use1 W (‵ (fat fullShare (τ n) l 0 (only (arr-val m)))) (W .laws .raw-at fullShare (τ n) l 0 (only (arr-val m))) $ done !))
+      qed W (‵ (Beside n m l) ∷ []) ∵ use1 W (‵ (partAt (Records n) fullShare m l 0)) (array-whole 𝓤 H A W T.the-row fullShare n m l 0) $ fpick ! (λ vs. fsplit ! $ move ! (1 ∷ []) $
+      peeks ! (Records n) (Is (Records n)) (shows 𝓤 H A (Records n)) m vs (λ is.
+      rewrite ! 0 (λ (ws : List Val). ‵ (Records n .own m ws)) (records-tells n m vs is) refl $ rewrite ! 1 (λ (ws : List Val). ‵ (cellAt fullShare (τ n ∷ []) ws l 0)) (records-tells n m vs is) refl $ move ! (1 ∷ []) $
+      use1 W (‵ (fat fullShare (τ n) l 0 (only (records-val m)))) (W .laws .raw-at fullShare (τ n) l 0 (only (records-val m))) $ done !))
 
   -- lent for κ, to be read
   abbrev pub Shared : Lft → ℕ → List Wire → ℕ → GName → SProp 𝓤

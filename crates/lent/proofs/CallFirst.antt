@@ -19,29 +19,27 @@ use denote.Laws.{Is, Makes, Typed}
 use denote.Plain.{uint-makes}
 use denote.Builtin.{usize}
 use denote.Ref.{RefT}
-use denote.Array.{Array, array-typed, array-makes}
 use denote.Slice.{sliceVal, ShrSlice}
 use denote.Steps.{owned, nothing}
-use denote.Struct.Laws as LL
 use denote.Triple.Statement.{Contract}
 use denote.Triple.Clauses.{ensured, lasts}
 use denote.Triple.Spec.{tripleOf}
 use Rattle.copies.specs.First.{firstOf}
 use Rattle.document.specs.declared.Wire.{Wire}
 use Rattle.document.proofs.Wire as T
-use Rattle.document.proofs.Wire.Laws as T′
+use Rattle.copies.proofs.Arrays.{Records, records-makes, records-typed}
 use Rattle.copies.proofs.first as first
 
 -- the array by value
 abbrev pub Arr : RattleType
-Arr = Array T.the-row 128
+Arr = Records 128
 
 module _ {M : Type 1} (𝓤 : URA M) (H : Heap 𝓤) (A : Atoms 𝓤) (W : Given 𝓤 H A) where
   pub arr-makes : Makes 𝓤 H A Arr (Is Arr)
-  arr-makes = array-makes 𝓤 H A W T.the-row (LL.makes T.the-type T′.the-plain 𝓤 H A) 128
+  arr-makes = records-makes 𝓤 H A W 128
 
   pub arr-typed : (m : List Wire) (us : List Val) → Is Arr m us → Typed (Arr .mir) us
-  arr-typed m us is = array-typed T.the-row (λ w vs g. LL.lawful T.the-type T′.the-laws 𝓤 H A W .typed w vs g) 128 m us is
+  arr-typed = records-typed 𝓤 H A W 128
 
 module _ {M : Type 1} (𝓤 : URA M) (H : Heap 𝓤) (A : Atoms 𝓤) (mem : Memory → SProp 𝓤) (run : Routine → Fun 𝓤) where
   abbrev pub First : Contract 𝓤

@@ -33,7 +33,6 @@ use denote.Laws.{Is, shows, Tells, Makes, Typed}
 use denote.Plain.{uint-vals, uint-tells, uint-makes}
 use denote.Builtin.{usize}
 use denote.Ref.{RefT, now}
-use denote.Array.{Array, array-vals, array-tells, array-typed, array-makes}
 use denote.Slice.{sliceTy, sliceVal, ShrSlice, Room, slice-vals, shr-slice-tells, shr-slice-copy}
 use denote.Index.{place-is, row, elem-out, elem-back, looks-slice, shuts-slice}
 use denote.Signature.{plain}
@@ -53,6 +52,7 @@ use Rattle.document.specs.declared.Wire.{Wire}
 use Rattle.copies.specs.First.{length-blanks}
 use Rattle.copies.proofs.Lists.{mix, mix-more, holds, fails}
 use Rattle.document.proofs.Wire as T
+use Rattle.copies.proofs.Arrays.{Records, records-val, records-tells, records-makes, records-typed}
 use Rattle.document.proofs.Wire.Laws as T′
 use Rattle.copies.proofs.with_record as with′
 use Rattle.copies.proofs.with_record.Symbol as with-def
@@ -78,10 +78,10 @@ abbrev arr : Ty
 arr = tyArray T′.mir 128
 
 abbrev Arr : RattleType
-Arr = Array T.the-row 128
+Arr = Records 128
 
 abbrev avs : List Wire → List Val
-avs m = array-vals (LL.vals T.the-type T′.the-laws) m
+avs = records-val
 
 abbrev mach : Wire → Val
 mach w = LL.tuple-val T.the-type T′.the-laws (T.the-type .to w)
@@ -90,7 +90,7 @@ abbrev bl : List Wire
 bl = blanks
 
 tells : Tells Arr (Is Arr) avs
-tells = array-tells T.the-row (LL.vals T.the-type T′.the-laws) (LL.tells T.the-type T′.the-laws) 128
+tells = records-tells 128
 
 abbrev stayed : Stays (fetch.ended .signature .params) (fetch.ended .kept)
 stayed = (stay-none-slice (0 ∷ []) tt (plain (λ _. T.the-row)) yes, (stay-none (λ _. usize) yes, tt))
@@ -105,10 +105,10 @@ module _ {M : Type 1} (𝓤 : URA M) (H : Heap 𝓤) (A : Atoms 𝓤) (mem : Mem
 module _ {M : Type 1} (𝓤 : URA M) (H : Heap 𝓤) (A : Atoms 𝓤) (W : Given 𝓤 H A) (mem : Memory → SProp 𝓤) (run : Routine → Fun 𝓤) (κ : Lft) (q : Share) (b o : ℕ) (γ : GName) (ys : List Wire) (n : ℕ)
     (gn : Room T.the-row (length ys)) (n-fits : n < 2 ^ 64) (within : n ≤ length ys) (short : n ≤ 128) where
   arr-makes : Makes 𝓤 H A Arr (Is Arr)
-  arr-makes = array-makes 𝓤 H A W T.the-row (LL.makes T.the-type T′.the-plain 𝓤 H A) 128
+  arr-makes = records-makes 𝓤 H A W 128
 
   typed : (m : List Wire) (us : List Val) → Is Arr m us → Typed (Arr .mir) us
-  typed m us is = array-typed T.the-row (λ w vs g. LL.lawful T.the-type T′.the-laws 𝓤 H A W .typed w vs g) 128 m us is
+  typed = records-typed 𝓤 H A W 128
 
   abbrev ref : RefT (List Wire)
   ref = record { ptr = (b, o); name = γ; now = ys }

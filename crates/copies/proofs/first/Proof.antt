@@ -24,7 +24,6 @@ use denote.Laws.{Is, shows, Typed}
 use denote.Plain.{uint-vals, uint-tells, uint-makes, uint-lawful}
 use denote.Builtin.{usize}
 use denote.Ref.{RefT, now}
-use denote.Array.{Array, array-typed, array-makes}
 use denote.Slice.{sliceVal, ShrSlice, Room, slice-vals, shr-slice-tells, shr-slice-copy}
 use denote.Signature.{plain}
 use denote.Steps.{only, owned, nothing, peeks, heard}
@@ -40,6 +39,7 @@ use denote.Exit.{yes}
 use Rattle.copies.specs.First.{fetched, clipped, firstOf}
 use Rattle.document.specs.declared.Wire.{Wire}
 use Rattle.document.proofs.Wire as T
+use Rattle.copies.proofs.Arrays.{Records, records-makes, records-typed}
 use Rattle.document.proofs.Wire.Laws as T′
 use Rattle.copies.proofs.clip as clip
 use Rattle.copies.proofs.clip.Symbol as clip-def
@@ -55,7 +55,7 @@ use Rattle.copies.proofs.first.Statement as stated
 use Rattle.copies.proofs.first.Code as code
 
 abbrev Arr : RattleType
-Arr = Array T.the-row 128
+Arr = Records 128
 
 abbrev stayed : Stays (first.ended .signature .params) (first.ended .kept)
 stayed = (stay-none-slice (0 ∷ []) tt (plain (λ _. T.the-row)) yes, (stay-none (λ _. usize) yes, tt))
@@ -70,7 +70,7 @@ module _ {M : Type 1} (𝓤 : URA M) (H : Heap 𝓤) (A : Atoms 𝓤) (mem : Mem
 module _ {M : Type 1} (𝓤 : URA M) (H : Heap 𝓤) (A : Atoms 𝓤) (W : Given 𝓤 H A) (mem : Memory → SProp 𝓤) (run : Routine → Fun 𝓤) (κ : Lft) (q : Share) (b o : ℕ) (γ : GName) (ys : List Wire) (n : ℕ)
     (gn : Room T.the-row (length ys)) (n-fits : n < 2 ^ 64) where
   typed : (m : List Wire) (us : List Val) → Is Arr m us → Typed (Arr .mir) us
-  typed m us is = array-typed T.the-row (λ w vs g. LL.lawful T.the-type T′.the-laws 𝓤 H A W .typed w vs g) 128 m us is
+  typed = records-typed 𝓤 H A W 128
 
   abbrev ref : RefT (List Wire)
   ref = record { ptr = (b, o); name = γ; now = ys }
@@ -92,7 +92,7 @@ module _ {M : Type 1} (𝓤 : URA M) (H : Heap 𝓤) (A : Atoms 𝓤) (W : Given
       qed W ((‵ (flft κ q) ⊛ ‵ ftrue) ∷ ‵ Own ∷ []) ∵
       suffices ! _ (ends-at 𝓤 H A first.ended stayed (first.clauses 𝓤 H A mem run) W (((κ, tt), (q, tt), tt, x, at), tt) u m (tt, (tt, tt)) (tt, (tt, tt))) $ says ! e $ frame ! $
       nothing ! $ owned ! usize (Is usize) (uint-makes 𝓤 H A W w64) n _ (refl, n-fits) $ fjoin ! $ move ! (1 ∷ 0 ∷ []) $ fjoin ! $ frame ! $
-      owned ! Arr (Is Arr) (array-makes 𝓤 H A W T.the-row (LL.makes T.the-type T′.the-plain 𝓤 H A) 128) m _ g $ done !
+      owned ! Arr (Is Arr) (records-makes 𝓤 H A W 128) m _ g $ done !
 
   abbrev to-clip : Clip 𝓤 H A mem run .Ghost
   to-clip = ((tt, tt, tt, (length ys, (n, tt)), (vint w64 (length ys) ∷ [], (vint w64 n ∷ [], tt))), tt)

@@ -33,7 +33,6 @@ use denote.Laws.{Is, shows}
 use denote.Plain.{uint-vals, uint-tells, uint-makes}
 use denote.Builtin.{usize}
 use denote.Ref.{RefT, now}
-use denote.Array.{Array, array-vals, array-tells, array-typed, array-makes}
 use denote.Slice.{sliceTy, sliceVal, MutSlice, Room, heres, codedHoleys, slice-vals, mut-slice-tells, at-slice}
 use denote.Lend.{Held}
 use denote.Index.{place-is, row, elem-out, elem-put, opens-slice, closes-slice}
@@ -52,6 +51,7 @@ use Rattle.document.specs.Routine.{blank}
 use Rattle.document.specs.declared.Wire.{Wire}
 use Rattle.copies.proofs.Lists.{mix, mix-more, length-mix, holds, fails}
 use Rattle.document.proofs.Wire as T
+use Rattle.copies.proofs.Arrays.{Records, records-val, records-tells, records-makes, records-typed}
 use Rattle.document.proofs.Wire.Laws as T′
 use Rattle.copies.proofs.record_at as pick-at
 use Rattle.copies.proofs.record_at.Symbol as pick-def
@@ -73,7 +73,7 @@ abbrev arr : Ty
 arr = tyArray T′.mir 128
 
 abbrev stayed : Stays (store′.ended .signature .params) (store′.ended .kept)
-stayed = (stay-slice (0 ∷ []) tt (plain (λ _. T.the-row)), (stay-none (λ _. Array T.the-row 128) yes, (stay-none (λ _. usize) yes, tt)))
+stayed = (stay-slice (0 ∷ []) tt (plain (λ _. T.the-row)), (stay-none (λ _. Records 128) yes, (stay-none (λ _. usize) yes, tt)))
 
 module _ {M : Type 1} (𝓤 : URA M) (H : Heap 𝓤) (A : Atoms 𝓤) (mem : Memory → SProp 𝓤) (run : Routine → Fun 𝓤) where
   abbrev At-contract : Contract 𝓤
@@ -82,7 +82,7 @@ module _ {M : Type 1} (𝓤 : URA M) (H : Heap 𝓤) (A : Atoms 𝓤) (mem : Mem
 module _ {M : Type 1} (𝓤 : URA M) (H : Heap 𝓤) (A : Atoms 𝓤) (W : Given 𝓤 H A) (mem : Memory → SProp 𝓤) (run : Routine → Fun 𝓤) (κ : Lft) (q : Share) (b o : ℕ) (γ : GName) (ys ws : List Wire) (n : ℕ)
     (gn : Room T.the-row (length ys)) (n-fits : n < 2 ^ 64) (within : n ≤ length ys) (short : n ≤ 128) where
   abbrev vals : List Val
-  vals = array-vals (LL.vals T.the-type T′.the-laws) ws
+  vals = records-val ws
 
   abbrev ref : List Wire → RefT (List Wire)
   ref l = record { ptr = (b, o); name = γ; now = l }
@@ -99,7 +99,7 @@ module _ {M : Type 1} (𝓤 : URA M) (H : Heap 𝓤) (A : Atoms 𝓤) (W : Given
   abbrev zs : List Wire
   zs = mix ws ys n
 
-  module _ (isw : Is (Array T.the-row 128) ws vals) where
+  module _ (isw : Is (Records 128) ws vals) where
     len-ws : length ws ≡ 128
     len-ws = isw .1 .0 .1
 
@@ -113,7 +113,7 @@ module _ {M : Type 1} (𝓤 : URA M) (H : Heap 𝓤) (A : Atoms 𝓤) (W : Given
         nothing ! $ move ! (3 ∷ 0 ∷ []) $ join ! $ frame ! $
         fjoin ! $ pureI ! (at-slice T.the-row (ref zs) (at .0)) (tt, (tt, tt)) (ap (λ (m : ℕ). sliceVal (b, o) m ∷ []) (sym (len n (omega arith))), subst (Room T.the-row) (sym (len n (omega arith))) gn) $ fjoin ! $
         nothing ! $ owned ! usize (Is usize) (uint-makes 𝓤 H A W w64) n _ (refl, n-fits) $ fjoin ! $
-        owned ! (Array T.the-row 128) (Is (Array T.the-row 128)) (array-makes 𝓤 H A W T.the-row (LL.makes T.the-type T′.the-plain 𝓤 H A) 128) ws _ isw $ fjoin ! $ move ! (1 ∷ 0 ∷ []) $ fjoin ! $ frame ! $
+        owned ! (Records 128) (Is (Records 128)) (records-makes 𝓤 H A W 128) ws _ isw $ fjoin ! $ move ! (1 ∷ 0 ∷ []) $ fjoin ! $ frame ! $
         feqI ! (List Val) (vunit ∷ []) (vunit ∷ []) refl $ done !
 
     abbrev to : ℕ → At-contract 𝓤 H A mem run .Ghost
@@ -122,7 +122,7 @@ module _ {M : Type 1} (𝓤 : URA M) (H : Heap 𝓤) (A : Atoms 𝓤) (W : Given
     asked : (i : ℕ) → i < 2 ^ 64 → i < 128 → ent 𝓤 (sem 𝓤 H A ftrue) (At-contract 𝓤 H A mem run .pre (to i))
     asked i fits small =
         qed W (‵ ftrue ∷ []) ∵ says ! small $ frame ! $ nothing ! $ owned ! usize (Is usize) (uint-makes 𝓤 H A W w64) i _ (refl, fits) $ fjoin ! $
-        owned ! (Array T.the-row 128) (Is (Array T.the-row 128)) (array-makes 𝓤 H A W T.the-row (LL.makes T.the-type T′.the-plain 𝓤 H A) 128) ws _ isw $ fjoin ! $ done !
+        owned ! (Records 128) (Is (Records 128)) (records-makes 𝓤 H A W 128) ws _ isw $ fjoin ! $ done !
 
     said : (i : ℕ) (r : Wire) → ent 𝓤 (ensured 𝓤 H A pick-at.ended (pick-at.clauses 𝓤 H A mem run) tt (ws, (i, tt)) tt r) (fact 𝓤 (r ≡ getD ws i blank))
     said i r = exE 𝓤 _ (λ us. snd∗ 𝓤 (sem 𝓤 H A (lasts pick-at.ended tt (ws, (i, tt)) us)) (fact 𝓤 (r ≡ getD ws i blank)))
@@ -228,9 +228,9 @@ module _ {M : Type 1} (𝓤 : URA M) (H : Heap 𝓤) (A : Atoms 𝓤) (W : Given
     walk : (𝓣 : Tables 𝓤 H) (fm : FmC 𝓤 H (W .laws) (𝓣 .C)) (known : Triple 𝓤 (𝓣 .C #copies·record-at) (At-contract 𝓤 H A mem run)) → ent 𝓤 (onEntry 𝓤 H A store′.signature (κ, tt) (q, tt) x at)
         (WpFn 𝓤 H (𝓣 .C) (𝓣 .Λ) code.function (sliceVal (b, o) (length ys) ∷ only vals ∷ vint w64 n ∷ []) Post)
     walk 𝓣 fm known =
-        qed W ((‵ (flft κ q) ⊛ ‵ ftrue) ∷ ‵ (owns (MutSlice (named 0) κ T.the-row ∷ Array T.the-row 128 ∷ usize ∷ []) x at) ∷ []) ∵ enter ! (𝓣 .C) (𝓣 .Λ) code.function (sliceVal (b, o) (length ys) ∷ only vals ∷ vint w64 n ∷ []) _ $
+        qed W ((‵ (flft κ q) ⊛ ‵ ftrue) ∷ ‵ (owns (MutSlice (named 0) κ T.the-row ∷ Records 128 ∷ usize ∷ []) x at) ∷ []) ∵ enter ! (𝓣 .C) (𝓣 .Λ) code.function (sliceVal (b, o) (length ys) ∷ only vals ∷ vint w64 n ∷ []) _ $
         alloc1 ! (λ l₀. alloc1 ! (λ l₁. alloc1 ! (λ l₂. alloc1 ! (λ l₃. alloc1 ! (λ l₄. alloc1 ! (λ l₅. alloc1 ! (λ l₆. alloc1 ! (λ l₇. alloc1 ! (λ l₈. alloc0 ! $ params1 ! $
-        pass1 ! (init ! 14 refl (tt, (tt, (record { fits = gn .0 }, tt)))) $ pass1 ! (init ! 12 refl (array-typed T.the-row (LL.lawful T.the-type T′.the-laws 𝓤 H A W .typed) 128 ws _ isw .0)) $ pass1 ! (init ! 10 refl (tt, record { fits = n-fits })) $ pass0 ! $
+        pass1 ! (init ! 14 refl (tt, (tt, (record { fits = gn .0 }, tt)))) $ pass1 ! (init ! 12 refl (records-typed 𝓤 H A W 128 ws _ isw .0)) $ pass1 ! (init ! 10 refl (tt, record { fits = n-fits })) $ pass0 ! $
         assigns ! (of-opd ! (lit ! tt)) (from ! (stop !)) (init ! 8 refl (tt, record { fits = lit< tt })) $
         move ! (19 ∷ []) $ fsplit ! $ fsplit ! $ move ! (1 ∷ []) $ fsplit ! $ move ! (22 ∷ []) $ split ! $ move ! (2 ∷ 3 ∷ 0 ∷ []) $
         opens-slice ! tt T.the-row ys b o $
@@ -239,14 +239,14 @@ module _ {M : Type 1} (𝓤 : URA M) (H : Heap 𝓤) (A : Atoms 𝓤) (W : Given
 module _ {M : Type 1} (𝓤 : URA M) (H : Heap 𝓤) (A : Atoms 𝓤) (W : Given 𝓤 H A) (mem : Memory → SProp 𝓤) (run : Routine → Fun 𝓤) where
   store-walks : (𝓣 : Tables 𝓤 H) → FmC 𝓤 H (W .laws) (𝓣 .C) → Triple 𝓤 (𝓣 .C #copies·record-at) (At-contract 𝓤 H A mem run) → Walks 𝓤 H A store′.ended stayed (WpFn 𝓤 H (𝓣 .C) (𝓣 .Λ) code.function) (store′.clauses 𝓤 H A mem run)
   store-walks 𝓣 fm known = walked 𝓤 H A store′.ended stayed (store′.clauses 𝓤 H A mem run) (WpFn 𝓤 H (𝓣 .C) (𝓣 .Λ) code.function)
-      (λ κs. (slice-vals, (array-vals (LL.vals T.the-type T′.the-laws), (uint-vals w64, tt)))) (λ κs. (mut-slice-tells (named 0) (κs .0) T.the-row, (array-tells T.the-row (LL.vals T.the-type T′.the-laws) (LL.tells T.the-type T′.the-laws) 128, (uint-tells w64, tt))))
+      (λ κs. (slice-vals, (records-val, (uint-vals w64, tt)))) (λ κs. (mut-slice-tells (named 0) (κs .0) T.the-row, (records-tells 128, (uint-tells w64, tt))))
       (λ κs qs bounds a g are. needs 𝓤 ((a .1 .1 .0 ≤ 128) × (a .1 .1 .0 ≤ length (now (a .0)))) _ (λ h.
       walk 𝓤 H A W mem run (κs .0) (qs .0) (a .0 .ptr .0) (a .0 .ptr .1) (a .0 .name) (a .0 .now) (a .1 .0) (a .1 .1 .0) (are .0 .0 .1) (are .1 .1 .0 .1) (h .1) (h .0) (are .1 .0) 𝓣 fm known))
 
 store-meets : {M : Type 1} (𝓤 : URA M) (H : Heap 𝓤) (A : Atoms 𝓤) → Given 𝓤 H A → (mem : Memory → SProp 𝓤) (run : Routine → Fun 𝓤) (𝓣 : Tables 𝓤 H) → Triple 𝓤 (𝓣 .C #copies·record-at) (At-contract 𝓤 H A mem run)
     → Meets 𝓤 H A store′.signature (WpFn 𝓤 H (𝓣 .C) (𝓣 .Λ) code.function) (store′.spec 𝓤 H A mem run)
 store-meets 𝓤 H A W mem run 𝓣 known =
-    walk-meets 𝓤 H A store′.ended stayed W (goes-slice 𝓤 H A W 1 0 tt (plain (λ _. T.the-row)), (goes-none 𝓤 H A W 1 (λ _. Array T.the-row 128) yes (λ κs x f. refl), (goes-none 𝓤 H A W 1 (λ _. usize) yes (λ κs x f. refl), tt))) (store′.clauses 𝓤 H A mem run)
+    walk-meets 𝓤 H A store′.ended stayed W (goes-slice 𝓤 H A W 1 0 tt (plain (λ _. T.the-row)), (goes-none 𝓤 H A W 1 (λ _. Records 128) yes (λ κs x f. refl), (goes-none 𝓤 H A W 1 (λ _. usize) yes (λ κs x f. refl), tt))) (store′.clauses 𝓤 H A mem run)
     (WpFn 𝓤 H (𝓣 .C) (𝓣 .Λ) code.function) (WpFn-mono 𝓤 H (W .laws) 𝓣 code.function) (store-walks 𝓤 H A W mem run 𝓣 (fmOf 𝓤 H (W .laws) 𝓣) known)
 
 pub store-spec : {M : Type 1} → stated.statement M

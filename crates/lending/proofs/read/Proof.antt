@@ -44,11 +44,12 @@ use Rattle.lent.specs.declared.Filled.{Filled}
 use Rattle.lent.specs.ReadInto.{Answered}
 use Rattle.lending.specs.declared.After.{After}
 use Rattle.document.proofs.Wire as T
+use Rattle.copies.proofs.Arrays.{Records, records-val, records-tells, records-makes, records-typed}
 use Rattle.lent.proofs.Filled as F
 use Rattle.lent.proofs.Filled.Laws as F′
 use Rattle.lending.proofs.After as R
 use Rattle.lending.proofs.After.Laws as R′
-use Rattle.lending.proofs.Lending.{Arr, arr-val, arr-tells, arr-makes, arr-typed, τ, refTo, Beside, beside, whole, lends-list, list-back, room-130}
+use Rattle.lending.proofs.Lending.{τ, refTo, Beside, beside, whole, lends-list, list-back, room-130}
 use Rattle.lent.proofs.read as callee
 use Rattle.lent.proofs.read.Symbol as callee-def
 use Rattle.lent.proofs.read.Symbol.{name as #callee}
@@ -63,7 +64,7 @@ use Rattle.lending.proofs.read.Statement as stated
 use Rattle.lending.proofs.read.Code as code
 
 abbrev stayed : Stays (this.ended .signature .params) (this.ended .kept)
-stayed = (stay-none-slice (0 ∷ []) tt (plain (λ _. u8)) yes, (stay-none (λ _. Arr 130) yes, tt))
+stayed = (stay-none-slice (0 ∷ []) tt (plain (λ _. u8)) yes, (stay-none (λ _. Records 130) yes, tt))
 
 module _ {M : Type 1} (𝓤 : URA M) (H : Heap 𝓤) (A : Atoms 𝓤) (mem : Memory → SProp 𝓤) (run : Routine → Fun 𝓤) where
   abbrev Callee : Contract 𝓤
@@ -73,7 +74,7 @@ module _ {M : Type 1} (𝓤 : URA M) (H : Heap 𝓤) (A : Atoms 𝓤) (mem : Mem
   Both = tripleOf 𝓤 H A both.signature (both.spec 𝓤 H A mem run)
 
 module _ {M : Type 1} (𝓤 : URA M) (H : Heap 𝓤) (A : Atoms 𝓤) (W : Given 𝓤 H A) (mem : Memory → SProp 𝓤) (run : Routine → Fun 𝓤) (κ : Lft) (q : Share) (text : RefT (List ℕ)) (list : List Wire)
-    (text-room : Room u8 (length (text .now))) (is-list : Is (Arr 130) list (arr-val list)) where
+    (text-room : Room u8 (length (text .now))) (is-list : Is (Records 130) list (records-val list)) where
   abbrev textVal : Val
   textVal = sliceVal (text .ptr) (length (text .now))
 
@@ -81,7 +82,7 @@ module _ {M : Type 1} (𝓤 : URA M) (H : Heap 𝓤) (A : Atoms 𝓤) (W : Given
   x = (text, (list, tt))
 
   abbrev at : List Val × (List Val × Unit {0})
-  at = (textVal ∷ [], (arr-val list, tt))
+  at = (textVal ∷ [], (records-val list, tt))
 
   abbrev Own : Fml
   Own = ShrSlice (named 0) κ u8 .own text (textVal ∷ [])
@@ -92,7 +93,7 @@ module _ {M : Type 1} (𝓤 : URA M) (H : Heap 𝓤) (A : Atoms 𝓤) (W : Given
   exits : (r : After) (u : Val) → Answered (text .now) list (r .answer) (r .list) → Is R.the-row r (u ∷ []) → ent 𝓤 (⋆ 𝓤 H A ((‵ (flft κ q) ⊛ ‵ ftrue) ∷ ‵ Own ∷ [])) (Post u)
   exits r u e g =
       qed W ((‵ (flft κ q) ⊛ ‵ ftrue) ∷ ‵ Own ∷ []) ∵ suffices ! _ (ends-at 𝓤 H A this.ended stayed (this.clauses 𝓤 H A mem run) W (((κ, tt), (q, tt), tt, x, at), tt) u r (tt, (tt, tt)) (tt, (tt, tt))) $ says ! e $ frame ! $
-      nothing ! $ owned ! (Arr 130) (Is (Arr 130)) (arr-makes 𝓤 H A W 130) list _ is-list $ fjoin ! $ move ! (1 ∷ 0 ∷ []) $ fjoin ! $ frame ! $ owned ! R.the-row (Is R.the-row) (LL.makes R.the-type R′.the-plain 𝓤 H A) r _ g $ done !
+      nothing ! $ owned ! (Records 130) (Is (Records 130)) (records-makes 𝓤 H A W 130) list _ is-list $ fjoin ! $ move ! (1 ∷ 0 ∷ []) $ fjoin ! $ frame ! $ owned ! R.the-row (Is R.the-row) (LL.makes R.the-type R′.the-plain 𝓤 H A) r _ g $ done !
 
   -- the read, into the list that lies in the local l, lent for α under the name γ
   module _ (α l : ℕ) (γ : GName) where
@@ -111,13 +112,13 @@ module _ {M : Type 1} (𝓤 : URA M) (H : Heap 𝓤) (A : Atoms 𝓤) (W : Given
     Said f = ensured 𝓤 H A callee.ended (callee.clauses 𝓤 H A mem run) (κ, (α ∷ [], tt)) (text, (refTo list l γ, tt)) tt f
 
   -- the answer and the list, put together
-  module _ (f : Filled) (u : Val) (is-f : Is F.the-row f (u ∷ [])) (zs : List Wire) (is-zs : Is (Arr 130) zs (arr-val zs)) where
+  module _ (f : Filled) (u : Val) (is-f : Is F.the-row f (u ∷ [])) (zs : List Wire) (is-zs : Is (Records 130) zs (records-val zs)) where
     abbrev to-both : Both 𝓤 H A mem run .Ghost
-    to-both = ((tt, tt, tt, (f, (zs, tt)), (u ∷ [], (arr-val zs, tt))), tt)
+    to-both = ((tt, tt, tt, (f, (zs, tt)), (u ∷ [], (records-val zs, tt))), tt)
 
     asked-both : ent 𝓤 (sem 𝓤 H A ftrue) (Both 𝓤 H A mem run .pre to-both)
     asked-both =
-        qed W (‵ ftrue ∷ []) ∵ nothing ! $ owned ! (Arr 130) (Is (Arr 130)) (arr-makes 𝓤 H A W 130) zs _ is-zs $ fjoin ! $ owned ! F.the-row (Is F.the-row) (LL.makes F.the-type F′.the-plain 𝓤 H A) f _ is-f $ fjoin ! $
+        qed W (‵ ftrue ∷ []) ∵ nothing ! $ owned ! (Records 130) (Is (Records 130)) (records-makes 𝓤 H A W 130) zs _ is-zs $ fjoin ! $ owned ! F.the-row (Is F.the-row) (LL.makes F.the-type F′.the-plain 𝓤 H A) f _ is-f $ fjoin ! $
         move ! (1 ∷ 0 ∷ []) $ join ! $ frame ! $ done !
 
     abbrev Said-both : After → SProp 𝓤
@@ -133,13 +134,13 @@ module _ {M : Type 1} (𝓤 : URA M) (H : Heap 𝓤) (A : Atoms 𝓤) (W : Given
     answered e r h = subst (λ (a : Filled). Answered (text .now) list a (r .list)) (sym (h .0)) (subst (λ (ws : List Wire). Answered (text .now) list f ws) (sym (h .1)) e)
 
   walk : (C : Calls 𝓤 H) (Λ : Loops 𝓤 H) (fm : FmC 𝓤 H (W .laws) C) → Triple 𝓤 (C #callee) (Callee 𝓤 H A mem run) → Triple 𝓤 (C #both) (Both 𝓤 H A mem run)
-      → ent 𝓤 (onEntry 𝓤 H A this.signature (κ, tt) (q, tt) x at) (WpFn 𝓤 H C Λ code.function (textVal ∷ only (arr-val list) ∷ []) Post)
+      → ent 𝓤 (onEntry 𝓤 H A this.signature (κ, tt) (q, tt) x at) (WpFn 𝓤 H C Λ code.function (textVal ∷ only (records-val list) ∷ []) Post)
   walk C Λ fm known known-both =
-      qed W ((‵ (flft κ q) ⊛ ‵ ftrue) ∷ ‵ (owns (ShrSlice (named 0) κ u8 ∷ Arr 130 ∷ []) x at) ∷ []) ∵ enter ! C Λ code.function (textVal ∷ only (arr-val list) ∷ []) _ $
+      qed W ((‵ (flft κ q) ⊛ ‵ ftrue) ∷ ‵ (owns (ShrSlice (named 0) κ u8 ∷ Records 130 ∷ []) x at) ∷ []) ∵ enter ! C Λ code.function (textVal ∷ only (records-val list) ∷ []) _ $
       alloc1 ! (λ l₀. alloc1 ! (λ l₁. alloc1 ! (λ l₂. alloc1 ! (λ l₃. alloc1 ! (λ l₄. alloc1 ! (λ l₅. alloc1 ! (λ l₆. alloc1 ! (λ l₇. alloc0 ! $ params1 ! $
-      pass1 ! (init ! 12 refl (tt, (tt, (record { fits = text-room .0 }, tt)))) $ pass1 ! (init ! 10 refl (arr-typed 𝓤 H A W 130 list _ is-list .0)) $ pass0 ! $
+      pass1 ! (init ! 12 refl (tt, (tt, (record { fits = text-room .0 }, tt)))) $ pass1 ! (init ! 10 refl (records-typed 𝓤 H A W 130 list _ is-list .0)) $ pass0 ! $
       -- [the locals, the last first, each with that it dies; the token; what the parameters own]
-      assigns ! (of-opd ! (load ! (from ! (stop !)) (look ! 10 refl))) (from ! (stop !)) (init ! 8 refl (arr-typed 𝓤 H A W 130 list _ is-list .0)) $
+      assigns ! (of-opd ! (load ! (from ! (stop !)) (look ! 10 refl))) (from ! (stop !)) (init ! 8 refl (records-typed 𝓤 H A W 130 list _ is-list .0)) $
       assigns ! (addr ! (from ! (stop !))) (from ! (stop !)) (init ! 4 refl (tt, tt)) $
       assigns ! (agg ! (and-then ! (load ! (from ! (stop !)) (look ! 4 refl)) (and-then ! (lit ! tt) (no-more !)))) (from ! (stop !)) (init ! 2 refl (tt, (tt, (record { fits = lit< tt }, tt)))) $
       rewrite ! 2 (λ (k : ℕ). ‵ (fat fullShare (sliceTy (tyRef erased mut (pointee (T.the-row .written)))) l₆ 0 (sliceVal (l₃, 0) k))) (sym (is-list .1 .0 .1)) refl $
@@ -159,10 +160,10 @@ module _ {M : Type 1} (𝓤 : URA M) (H : Heap 𝓤) (A : Atoms 𝓤) (W : Given
       land ! (from ! (stop !)) (init ! 12 refl (LL.lawful F.the-type F′.the-laws 𝓤 H A W .typed f _ is-f .0)) $ toss ! $
       -- [the tokens; the last records; true; the lender's part; what text owns; the locals]: the lifetime is over, and the array is the function's again
       split ! $ move ! (1 ∷ []) $ split ! $ lft-end ! tt $ move ! (0 ∷ 5 ∷ 3 ∷ []) $ use3 W (later (‵ (Beside 130 (zs .1 .0) l₃))) (list-back 𝓤 H A W (α ∷ []) 130 (zs .1 .0) l₃ γ) $ await ! tt $
-      use1 W (‵ (fat fullShare (τ 130) l₃ 0 (only (arr-val (zs .1 .0)))) ⊛ ‵ (Arr 130 .own (zs .1 .0) (arr-val (zs .1 .0)))) (whole 𝓤 H A W 130 (zs .1 .0) l₃) $ split ! $ move ! (1 ∷ []) $
-      peeks ! (Arr 130) (Is (Arr 130)) (shows 𝓤 H A (Arr 130)) (zs .1 .0) (arr-val (zs .1 .0)) (λ is-zs. toss ! $
+      use1 W (‵ (fat fullShare (τ 130) l₃ 0 (only (records-val (zs .1 .0)))) ⊛ ‵ (Records 130 .own (zs .1 .0) (records-val (zs .1 .0)))) (whole 𝓤 H A W 130 (zs .1 .0) l₃) $ split ! $ move ! (1 ∷ []) $
+      peeks ! (Records 130) (Is (Records 130)) (shows 𝓤 H A (Records 130)) (zs .1 .0) (records-val (zs .1 .0)) (λ is-zs. toss ! $
       -- [the array; true; the token of text; true; what text owns; the locals]
-      assigns ! (of-opd ! (load ! (from ! (stop !)) (look ! 0 refl))) (from ! (stop !)) (init ! 5 refl (arr-typed 𝓤 H A W 130 (zs .1 .0) _ is-zs .0)) $
+      assigns ! (of-opd ! (load ! (from ! (stop !)) (look ! 0 refl))) (from ! (stop !)) (init ! 5 refl (records-typed 𝓤 H A W 130 (zs .1 .0) _ is-zs .0)) $
       nothing ! $ use1 W (raw (Both 𝓤 H A mem run .pre (to-both f u is-f (zs .1 .0) is-zs))) (asked-both f u is-f (zs .1 .0) is-zs) $
       calls-at ! fm (Both 𝓤 H A mem run) known-both (to-both f u is-f (zs .1 .0) is-zs) (and-then ! (load ! (from ! (stop !)) (look ! 12 refl)) (and-then ! (load ! (from ! (stop !)) (look ! 6 refl)) (no-more !))) (λ v.
       use1 W (later (some (λ (r : After). (‵ ftrue ⊛ ‵ (R.the-row .own r (v ∷ []))) ⊛ raw (Said-both f u is-f (zs .1 .0) is-zs r)))) (id⊢ 𝓤 _) $ await ! tt $ pick ! (λ r.
@@ -177,13 +178,13 @@ module _ {M : Type 1} (𝓤 : URA M) (H : Heap 𝓤) (A : Atoms 𝓤) (W : Given
 module _ {M : Type 1} (𝓤 : URA M) (H : Heap 𝓤) (A : Atoms 𝓤) (W : Given 𝓤 H A) (mem : Memory → SProp 𝓤) (run : Routine → Fun 𝓤) where
   read-walks : (C : Calls 𝓤 H) (Λ : Loops 𝓤 H) → FmC 𝓤 H (W .laws) C → Triple 𝓤 (C #callee) (Callee 𝓤 H A mem run) → Triple 𝓤 (C #both) (Both 𝓤 H A mem run) → Walks 𝓤 H A this.ended stayed (WpFn 𝓤 H C Λ code.function) (this.clauses 𝓤 H A mem run)
   read-walks C Λ fm known known-both = walked 𝓤 H A this.ended stayed (this.clauses 𝓤 H A mem run) (WpFn 𝓤 H C Λ code.function)
-      (λ κs. (slice-vals, (arr-val, tt))) (λ κs. (shr-slice-tells (named 0) (κs .0) u8, (arr-tells 130, tt)))
+      (λ κs. (slice-vals, (records-val, tt))) (λ κs. (shr-slice-tells (named 0) (κs .0) u8, (records-tells 130, tt)))
       (λ κs qs bounds a g are. via 𝓤 _ (fst∗ 𝓤 _ (emp 𝓤)) (walk 𝓤 H A W mem run (κs .0) (qs .0) (a .0) (a .1 .0) (are .0 .0 .1) (are .1 .0) C Λ fm known known-both))
 
 read-meets : {M : Type 1} (𝓤 : URA M) (H : Heap 𝓤) (A : Atoms 𝓤) → Given 𝓤 H A → (mem : Memory → SProp 𝓤) (run : Routine → Fun 𝓤) (𝓣 : Tables 𝓤 H) → Triple 𝓤 (𝓣 .C #callee) (Callee 𝓤 H A mem run) → Triple 𝓤 (𝓣 .C #both) (Both 𝓤 H A mem run)
     → Meets 𝓤 H A this.signature (WpFn 𝓤 H (𝓣 .C) (𝓣 .Λ) code.function) (this.spec 𝓤 H A mem run)
 read-meets 𝓤 H A W mem run 𝓣 known known-both =
-    walk-meets 𝓤 H A this.ended stayed W (goes-none-slice 𝓤 H A W 1 (0 ∷ []) tt (plain (λ _. u8)) yes, (goes-none 𝓤 H A W 1 (λ _. Arr 130) yes (λ κs x f. refl), tt))
+    walk-meets 𝓤 H A this.ended stayed W (goes-none-slice 𝓤 H A W 1 (0 ∷ []) tt (plain (λ _. u8)) yes, (goes-none 𝓤 H A W 1 (λ _. Records 130) yes (λ κs x f. refl), tt))
     (this.clauses 𝓤 H A mem run) (WpFn 𝓤 H (𝓣 .C) (𝓣 .Λ) code.function) (WpFn-mono 𝓤 H (W .laws) 𝓣 code.function) (read-walks 𝓤 H A W mem run (𝓣 .C) (𝓣 .Λ) (fmOf 𝓤 H (W .laws) 𝓣) known known-both)
 
 pub read-spec : {M : Type 1} → stated.statement M

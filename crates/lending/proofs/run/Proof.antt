@@ -43,9 +43,10 @@ use Rattle.document.specs.declared.Wire.{Wire}
 use Rattle.document.specs.declared.Ran.{Ran}
 use Rattle.runner.specs.Run as Running
 use Rattle.document.proofs.Wire as T
+use Rattle.copies.proofs.Arrays.{Records, records-val, records-tells, records-makes, records-typed}
 use Rattle.document.proofs.Ran as R
 use Rattle.document.proofs.Ran.Laws as R′
-use Rattle.lending.proofs.Lending.{Arr, arr-val, arr-tells, arr-makes, arr-typed, τ, refTo, Beside, beside, whole, shares-list, room}
+use Rattle.lending.proofs.Lending.{τ, refTo, Beside, beside, whole, shares-list, room}
 use Rattle.lent.proofs.run as callee
 use Rattle.lent.proofs.run.Symbol as callee-def
 use Rattle.lent.proofs.run.Symbol.{name as #callee}
@@ -56,18 +57,18 @@ use Rattle.lending.proofs.run.Statement as stated
 use Rattle.lending.proofs.run.Code as code
 
 abbrev stayed : Stays (this.ended .signature .params) (this.ended .kept)
-stayed = (stay-none (λ _. usize) yes, (stay-none (λ _. usize) yes, (stay-none (λ _. usize) yes, (stay-none (λ _. Arr 100) yes, (stay-none (λ _. u64) yes, (stay-none (λ _. u64) yes, (stay-none (λ _. u64) yes, (gave-slice (0 ∷ []) tt (plain (λ _. u8)), tt))))))))
+stayed = (stay-none (λ _. usize) yes, (stay-none (λ _. usize) yes, (stay-none (λ _. usize) yes, (stay-none (λ _. Records 100) yes, (stay-none (λ _. u64) yes, (stay-none (λ _. u64) yes, (stay-none (λ _. u64) yes, (gave-slice (0 ∷ []) tt (plain (λ _. u8)), tt))))))))
 
 abbrev Callee : {M : Type 1} (𝓤 : URA M) (H : Heap 𝓤) (A : Atoms 𝓤) (mem : Memory → SProp 𝓤) (run : Routine → Fun 𝓤) → Contract 𝓤
 Callee 𝓤 H A mem run = tripleOf 𝓤 H A callee.signature (callee.spec 𝓤 H A mem run)
 
 module _ {M : Type 1} (𝓤 : URA M) (H : Heap 𝓤) (A : Atoms 𝓤) (W : Given 𝓤 H A) (mem : Memory → SProp 𝓤) (run : Routine → Fun 𝓤) (κ : Lft) (q : Share) (s d n : ℕ) (list : List Wire) (shares randoms publics : ℕ) (buf : RefT (List ℕ))
-    (s-fits : s < 2 ^ 64) (d-fits : d < 2 ^ 64) (n-fits : n < 2 ^ 64) (is-list : Is (Arr 100) list (arr-val list)) (shares-fits : shares < 2 ^ 64) (randoms-fits : randoms < 2 ^ 64) (publics-fits : publics < 2 ^ 64) (buf-room : Room u8 (length (buf .now))) where
+    (s-fits : s < 2 ^ 64) (d-fits : d < 2 ^ 64) (n-fits : n < 2 ^ 64) (is-list : Is (Records 100) list (records-val list)) (shares-fits : shares < 2 ^ 64) (randoms-fits : randoms < 2 ^ 64) (publics-fits : publics < 2 ^ 64) (buf-room : Room u8 (length (buf .now))) where
   abbrev x : ℕ × (ℕ × (ℕ × (List Wire × (ℕ × (ℕ × (ℕ × (RefT (List ℕ) × Unit {0})))))))
   x = (s, (d, (n, (list, (shares, (randoms, (publics, (buf, tt))))))))
 
   abbrev at : List Val × (List Val × (List Val × (List Val × (List Val × (List Val × (List Val × (List Val × Unit {0})))))))
-  at = (vint w64 s ∷ [], (vint w64 d ∷ [], (vint w64 n ∷ [], (arr-val list, (vint w64 shares ∷ [], (vint w64 randoms ∷ [], (vint w64 publics ∷ [], (sliceVal (buf .ptr) (length (buf .now)) ∷ [], tt))))))))
+  at = (vint w64 s ∷ [], (vint w64 d ∷ [], (vint w64 n ∷ [], (records-val list, (vint w64 shares ∷ [], (vint w64 randoms ∷ [], (vint w64 publics ∷ [], (sliceVal (buf .ptr) (length (buf .now)) ∷ [], tt))))))))
 
   abbrev Post : Val → SProp 𝓤
   Post = walkOf 𝓤 H A this.ended stayed (this.clauses 𝓤 H A mem run) .post (((κ, tt), (q, tt), tt, x, at), tt)
@@ -75,7 +76,7 @@ module _ {M : Type 1} (𝓤 : URA M) (H : Heap 𝓤) (A : Atoms 𝓤) (W : Given
   exits : (r : Ran) (u : Val) (zs : List ℕ) → Running.Answered s d n list shares randoms publics (buf .now) r zs → length zs ≡ length (buf .now) → Is R.the-row r (u ∷ []) → ent 𝓤 (⋆ 𝓤 H A ((‵ (flft κ q) ⊛ ‵ ftrue) ∷ ‵ (finally u8 (buf .name) zs) ∷ [])) (Post u)
   exits r u zs e l g =
       qed W ((‵ (flft κ q) ⊛ ‵ ftrue) ∷ ‵ (finally u8 (buf .name) zs) ∷ []) ∵ suffices ! _ (ends-at 𝓤 H A this.ended stayed (this.clauses 𝓤 H A mem run) W (((κ, tt), (q, tt), tt, x, at), tt) u r (tt, (tt, (tt, (tt, (tt, (tt, (tt, (zs, tt)))))))) (tt, (tt, (tt, (tt, (tt, (tt, (tt, (l, tt))))))))) $ says ! e $ frame ! $
-      nothing ! $ move ! (1 ∷ 0 ∷ []) $ fjoin ! $ owned ! u64 (Is u64) (uint-makes 𝓤 H A W w64) publics _ (refl, publics-fits) $ fjoin ! $ owned ! u64 (Is u64) (uint-makes 𝓤 H A W w64) randoms _ (refl, randoms-fits) $ fjoin ! $ owned ! u64 (Is u64) (uint-makes 𝓤 H A W w64) shares _ (refl, shares-fits) $ fjoin ! $ owned ! (Arr 100) (Is (Arr 100)) (arr-makes 𝓤 H A W 100) list _ is-list $ fjoin ! $ owned ! usize (Is usize) (uint-makes 𝓤 H A W w64) n _ (refl, n-fits) $ fjoin ! $ owned ! usize (Is usize) (uint-makes 𝓤 H A W w64) d _ (refl, d-fits) $ fjoin ! $ owned ! usize (Is usize) (uint-makes 𝓤 H A W w64) s _ (refl, s-fits) $ fjoin ! $ frame ! $ owned ! R.the-row (Is R.the-row) (LL.makes R.the-type R′.the-plain 𝓤 H A) r _ g $ done !
+      nothing ! $ move ! (1 ∷ 0 ∷ []) $ fjoin ! $ owned ! u64 (Is u64) (uint-makes 𝓤 H A W w64) publics _ (refl, publics-fits) $ fjoin ! $ owned ! u64 (Is u64) (uint-makes 𝓤 H A W w64) randoms _ (refl, randoms-fits) $ fjoin ! $ owned ! u64 (Is u64) (uint-makes 𝓤 H A W w64) shares _ (refl, shares-fits) $ fjoin ! $ owned ! (Records 100) (Is (Records 100)) (records-makes 𝓤 H A W 100) list _ is-list $ fjoin ! $ owned ! usize (Is usize) (uint-makes 𝓤 H A W w64) n _ (refl, n-fits) $ fjoin ! $ owned ! usize (Is usize) (uint-makes 𝓤 H A W w64) d _ (refl, d-fits) $ fjoin ! $ owned ! usize (Is usize) (uint-makes 𝓤 H A W w64) s _ (refl, s-fits) $ fjoin ! $ frame ! $ owned ! R.the-row (Is R.the-row) (LL.makes R.the-type R′.the-plain 𝓤 H A) r _ g $ done !
 
   -- the call, of the list that lies in the local l, lent for α under the name γ
   module _ (α l : ℕ) (γ : GName) where
@@ -91,13 +92,13 @@ module _ {M : Type 1} (𝓤 : URA M) (H : Heap 𝓤) (A : Atoms 𝓤) (W : Given
     Said r = ensured 𝓤 H A callee.ended (callee.clauses 𝓤 H A mem run) (α ∷ [], (κ, tt)) (s, (d, (n, (refTo list l γ, (shares, (randoms, (publics, (buf, tt)))))))) tt r
 
   walk : (C : Calls 𝓤 H) (Λ : Loops 𝓤 H) (fm : FmC 𝓤 H (W .laws) C) → Triple 𝓤 (C #callee) (Callee 𝓤 H A mem run)
-      → ent 𝓤 (onEntry 𝓤 H A this.signature (κ, tt) (q, tt) x at) (WpFn 𝓤 H C Λ code.function (vint w64 s ∷ vint w64 d ∷ vint w64 n ∷ only (arr-val list) ∷ vint w64 shares ∷ vint w64 randoms ∷ vint w64 publics ∷ sliceVal (buf .ptr) (length (buf .now)) ∷ []) Post)
+      → ent 𝓤 (onEntry 𝓤 H A this.signature (κ, tt) (q, tt) x at) (WpFn 𝓤 H C Λ code.function (vint w64 s ∷ vint w64 d ∷ vint w64 n ∷ only (records-val list) ∷ vint w64 shares ∷ vint w64 randoms ∷ vint w64 publics ∷ sliceVal (buf .ptr) (length (buf .now)) ∷ []) Post)
   walk C Λ fm known =
-      qed W ((‵ (flft κ q) ⊛ ‵ ftrue) ∷ ‵ (owns (usize ∷ usize ∷ usize ∷ Arr 100 ∷ u64 ∷ u64 ∷ u64 ∷ MutSlice (named 0) κ u8 ∷ []) x at) ∷ []) ∵ enter ! C Λ code.function (vint w64 s ∷ vint w64 d ∷ vint w64 n ∷ only (arr-val list) ∷ vint w64 shares ∷ vint w64 randoms ∷ vint w64 publics ∷ sliceVal (buf .ptr) (length (buf .now)) ∷ []) _ $
+      qed W ((‵ (flft κ q) ⊛ ‵ ftrue) ∷ ‵ (owns (usize ∷ usize ∷ usize ∷ Records 100 ∷ u64 ∷ u64 ∷ u64 ∷ MutSlice (named 0) κ u8 ∷ []) x at) ∷ []) ∵ enter ! C Λ code.function (vint w64 s ∷ vint w64 d ∷ vint w64 n ∷ only (records-val list) ∷ vint w64 shares ∷ vint w64 randoms ∷ vint w64 publics ∷ sliceVal (buf .ptr) (length (buf .now)) ∷ []) _ $
       alloc1 ! (λ l₀. alloc1 ! (λ l₁. alloc1 ! (λ l₂. alloc1 ! (λ l₃. alloc1 ! (λ l₄. alloc1 ! (λ l₅. alloc1 ! (λ l₆. alloc1 ! (λ l₇. alloc1 ! (λ l₈. alloc1 ! (λ l₉. alloc1 ! (λ l₁₀. alloc1 ! (λ l₁₁. alloc1 ! (λ l₁₂. alloc1 ! (λ l₁₃. alloc0 ! $ params1 ! $
-      pass1 ! (init ! 24 refl (tt, record { fits = s-fits })) $ pass1 ! (init ! 22 refl (tt, record { fits = d-fits })) $ pass1 ! (init ! 20 refl (tt, record { fits = n-fits })) $ pass1 ! (init ! 18 refl (arr-typed 𝓤 H A W 100 list _ is-list .0)) $ pass1 ! (init ! 16 refl (tt, record { fits = shares-fits })) $ pass1 ! (init ! 14 refl (tt, record { fits = randoms-fits })) $ pass1 ! (init ! 12 refl (tt, record { fits = publics-fits })) $ pass1 ! (init ! 10 refl (tt, (tt, (record { fits = buf-room .0 }, tt)))) $ pass0 ! $
+      pass1 ! (init ! 24 refl (tt, record { fits = s-fits })) $ pass1 ! (init ! 22 refl (tt, record { fits = d-fits })) $ pass1 ! (init ! 20 refl (tt, record { fits = n-fits })) $ pass1 ! (init ! 18 refl (records-typed 𝓤 H A W 100 list _ is-list .0)) $ pass1 ! (init ! 16 refl (tt, record { fits = shares-fits })) $ pass1 ! (init ! 14 refl (tt, record { fits = randoms-fits })) $ pass1 ! (init ! 12 refl (tt, record { fits = publics-fits })) $ pass1 ! (init ! 10 refl (tt, (tt, (record { fits = buf-room .0 }, tt)))) $ pass0 ! $
       -- [the locals, the last first, each with that it dies; the token; what the parameters own]
-      assigns ! (of-opd ! (load ! (from ! (stop !)) (look ! 18 refl))) (from ! (stop !)) (init ! 8 refl (arr-typed 𝓤 H A W 100 list _ is-list .0)) $
+      assigns ! (of-opd ! (load ! (from ! (stop !)) (look ! 18 refl))) (from ! (stop !)) (init ! 8 refl (records-typed 𝓤 H A W 100 list _ is-list .0)) $
       assigns ! (addr ! (from ! (stop !))) (from ! (stop !)) (init ! 6 refl (tt, tt)) $
       assigns ! (agg ! (and-then ! (load ! (from ! (stop !)) (look ! 6 refl)) (and-then ! (lit ! tt) (no-more !)))) (from ! (stop !)) (init ! 4 refl (tt, (tt, (record { fits = lit< tt }, tt)))) $
       rewrite ! 4 (λ (k : ℕ). ‵ (fat fullShare (sliceTy (tyRef erased imm (pointee (T.the-row .written)))) l₁₁ 0 (sliceVal (l₉, 0) k))) (sym (is-list .1 .0 .1)) refl $
@@ -116,7 +117,7 @@ module _ {M : Type 1} (𝓤 : URA M) (H : Heap 𝓤) (A : Atoms 𝓤) (W : Given
       move ! (2 ∷ []) $ split ! $ move ! (1 ∷ []) $ peeks ! R.the-row (Is R.the-row) (shows 𝓤 H A R.the-row) r (v ∷ []) (λ is.
       land ! (from ! (stop !)) (init ! 30 refl (LL.lawful R.the-type R′.the-laws 𝓤 H A W .typed r _ is .0)) $ toss ! $
       -- [the tokens; the last bytes; true; the lender's part; the locals]: the lifetime is over, and the array is the function's again
-      split ! $ lft-end ! tt $ move ! (0 ∷ 4 ∷ []) $ lent-back ! tt $ use1 W (‵ (fat fullShare (τ 100) l₉ 0 (only (arr-val list))) ⊛ ‵ (Arr 100 .own list (arr-val list))) (whole 𝓤 H A W 100 list l₉) $ split ! $ move ! (1 ∷ 4 ∷ []) $ toss ! $ toss ! $
+      split ! $ lft-end ! tt $ move ! (0 ∷ 4 ∷ []) $ lent-back ! tt $ use1 W (‵ (fat fullShare (τ 100) l₉ 0 (only (records-val list))) ⊛ ‵ (Records 100 .own list (records-val list))) (whole 𝓤 H A W 100 list l₉) $ split ! $ move ! (1 ∷ 4 ∷ []) $ toss ! $ toss ! $
       returns ! (look ! 28 refl) $ forget ! 0 refl $ forget ! 3 refl $ forget ! 5 refl $ forget ! 7 refl $ forget ! 9 refl $ forget ! 12 refl $ forget ! 14 refl $ forget ! 16 refl $ forget ! 18 refl $ forget ! 20 refl $ forget ! 22 refl $ forget ! 24 refl $ forget ! 26 refl $ forget ! 28 refl $
       move ! (28 ∷ 29 ∷ []) $ free1 ! $ move ! (26 ∷ 27 ∷ []) $ free1 ! $ move ! (24 ∷ 25 ∷ []) $ free1 ! $ move ! (22 ∷ 23 ∷ []) $ free1 ! $ move ! (20 ∷ 21 ∷ []) $ free1 ! $ move ! (18 ∷ 19 ∷ []) $ free1 ! $ move ! (16 ∷ 17 ∷ []) $ free1 ! $ move ! (14 ∷ 15 ∷ []) $ free1 ! $ move ! (12 ∷ 13 ∷ []) $ free1 ! $ move ! (0 ∷ 11 ∷ []) $ free1 ! $ move ! (8 ∷ 9 ∷ []) $ free1 ! $ move ! (6 ∷ 7 ∷ []) $ free1 ! $ move ! (4 ∷ 5 ∷ []) $ free1 ! $ move ! (2 ∷ 3 ∷ []) $ free1 ! $ free0 ! $
       by ! (exits r v (zs .1 .1 .1 .1 .1 .1 .1 .0) e l is)))))))))))))))))))))))
@@ -124,8 +125,8 @@ module _ {M : Type 1} (𝓤 : URA M) (H : Heap 𝓤) (A : Atoms 𝓤) (W : Given
 module _ {M : Type 1} (𝓤 : URA M) (H : Heap 𝓤) (A : Atoms 𝓤) (W : Given 𝓤 H A) (mem : Memory → SProp 𝓤) (run : Routine → Fun 𝓤) where
   run-walks : (C : Calls 𝓤 H) (Λ : Loops 𝓤 H) → FmC 𝓤 H (W .laws) C → Triple 𝓤 (C #callee) (Callee 𝓤 H A mem run) → Walks 𝓤 H A this.ended stayed (WpFn 𝓤 H C Λ code.function) (this.clauses 𝓤 H A mem run)
   run-walks C Λ fm known = walked 𝓤 H A this.ended stayed (this.clauses 𝓤 H A mem run) (WpFn 𝓤 H C Λ code.function)
-      (λ κs. (uint-vals w64, (uint-vals w64, (uint-vals w64, (arr-val, (uint-vals w64, (uint-vals w64, (uint-vals w64, (slice-vals, tt)))))))))
-      (λ κs. (uint-tells w64, (uint-tells w64, (uint-tells w64, (arr-tells 100, (uint-tells w64, (uint-tells w64, (uint-tells w64, (mut-slice-tells (named 0) (κs .0) u8, tt)))))))))
+      (λ κs. (uint-vals w64, (uint-vals w64, (uint-vals w64, (records-val, (uint-vals w64, (uint-vals w64, (uint-vals w64, (slice-vals, tt)))))))))
+      (λ κs. (uint-tells w64, (uint-tells w64, (uint-tells w64, (records-tells 100, (uint-tells w64, (uint-tells w64, (uint-tells w64, (mut-slice-tells (named 0) (κs .0) u8, tt)))))))))
       (λ κs qs bounds a g are. via 𝓤 _ (fst∗ 𝓤 _ (emp 𝓤)) (walk 𝓤 H A W mem run (κs .0) (qs .0) (a .0) (a .1 .0) (a .1 .1 .0) (a .1 .1 .1 .0) (a .1 .1 .1 .1 .0) (a .1 .1 .1 .1 .1 .0) (a .1 .1 .1 .1 .1 .1 .0) (a .1 .1 .1 .1 .1 .1 .1 .0)
       (are .0 .1) (are .1 .0 .1) (are .1 .1 .0 .1) (are .1 .1 .1 .0) (are .1 .1 .1 .1 .0 .1) (are .1 .1 .1 .1 .1 .0 .1) (are .1 .1 .1 .1 .1 .1 .0 .1) (are .1 .1 .1 .1 .1 .1 .1 .0 .0 .1) C Λ fm known))
 
@@ -133,7 +134,7 @@ run-meets : {M : Type 1} (𝓤 : URA M) (H : Heap 𝓤) (A : Atoms 𝓤) → Giv
     → Meets 𝓤 H A this.signature (WpFn 𝓤 H (𝓣 .C) (𝓣 .Λ) code.function) (this.spec 𝓤 H A mem run)
 run-meets 𝓤 H A W mem run 𝓣 known =
     walk-meets 𝓤 H A this.ended stayed W
-    (goes-none 𝓤 H A W 1 (λ _. usize) yes (λ κs x f. refl), (goes-none 𝓤 H A W 1 (λ _. usize) yes (λ κs x f. refl), (goes-none 𝓤 H A W 1 (λ _. usize) yes (λ κs x f. refl), (goes-none 𝓤 H A W 1 (λ _. Arr 100) yes (λ κs x f. refl), (goes-none 𝓤 H A W 1 (λ _. u64) yes (λ κs x f. refl), (goes-none 𝓤 H A W 1 (λ _. u64) yes (λ κs x f. refl), (goes-none 𝓤 H A W 1 (λ _. u64) yes (λ κs x f. refl), (goes-gave-slice 𝓤 H A W 1 0 tt (plain (λ _. u8)), tt))))))))
+    (goes-none 𝓤 H A W 1 (λ _. usize) yes (λ κs x f. refl), (goes-none 𝓤 H A W 1 (λ _. usize) yes (λ κs x f. refl), (goes-none 𝓤 H A W 1 (λ _. usize) yes (λ κs x f. refl), (goes-none 𝓤 H A W 1 (λ _. Records 100) yes (λ κs x f. refl), (goes-none 𝓤 H A W 1 (λ _. u64) yes (λ κs x f. refl), (goes-none 𝓤 H A W 1 (λ _. u64) yes (λ κs x f. refl), (goes-none 𝓤 H A W 1 (λ _. u64) yes (λ κs x f. refl), (goes-gave-slice 𝓤 H A W 1 0 tt (plain (λ _. u8)), tt))))))))
     (this.clauses 𝓤 H A mem run) (WpFn 𝓤 H (𝓣 .C) (𝓣 .Λ) code.function) (WpFn-mono 𝓤 H (W .laws) 𝓣 code.function) (run-walks 𝓤 H A W mem run (𝓣 .C) (𝓣 .Λ) (fmOf 𝓤 H (W .laws) 𝓣) known)
 
 pub run-spec : {M : Type 1} → stated.statement M

@@ -42,9 +42,10 @@ use Rattle.document.specs.declared.Judged.{Judged}
 use Rattle.document.specs.Judgements as J
 use Rattle.document.specs.Lent.{lentJudged}
 use Rattle.document.proofs.Wire as T
+use Rattle.copies.proofs.Arrays.{Records, records-val, records-tells, records-makes, records-typed}
 use Rattle.document.proofs.Judged as R
 use Rattle.document.proofs.Judged.Laws as R′
-use Rattle.lending.proofs.Lending.{Arr, arr-val, arr-tells, arr-makes, arr-typed, τ, refTo, Beside, beside, whole, shares-list, room}
+use Rattle.lending.proofs.Lending.{τ, refTo, Beside, beside, whole, shares-list, room}
 use Rattle.lent.proofs.strong as callee
 use Rattle.lent.proofs.strong.Symbol as callee-def
 use Rattle.lent.proofs.strong.Symbol.{name as #callee}
@@ -55,18 +56,18 @@ use Rattle.lending.proofs.strong.Statement as stated
 use Rattle.lending.proofs.strong.Code as code
 
 abbrev stayed : Stays (this.ended .signature .params) (this.ended .kept)
-stayed = (stay-none (λ _. usize) yes, (stay-none (λ _. usize) yes, (stay-none (λ _. usize) yes, (stay-none (λ _. Arr 100) yes, (stay-none (λ _. usize) yes, tt)))))
+stayed = (stay-none (λ _. usize) yes, (stay-none (λ _. usize) yes, (stay-none (λ _. usize) yes, (stay-none (λ _. Records 100) yes, (stay-none (λ _. usize) yes, tt)))))
 
 abbrev Callee : {M : Type 1} (𝓤 : URA M) (H : Heap 𝓤) (A : Atoms 𝓤) (mem : Memory → SProp 𝓤) (run : Routine → Fun 𝓤) → Contract 𝓤
 Callee 𝓤 H A mem run = tripleOf 𝓤 H A callee.signature (callee.spec 𝓤 H A mem run)
 
 module _ {M : Type 1} (𝓤 : URA M) (H : Heap 𝓤) (A : Atoms 𝓤) (W : Given 𝓤 H A) (mem : Memory → SProp 𝓤) (run : Routine → Fun 𝓤) (s d n : ℕ) (list : List Wire) (t : ℕ)
-    (s-fits : s < 2 ^ 64) (d-fits : d < 2 ^ 64) (n-fits : n < 2 ^ 64) (is-list : Is (Arr 100) list (arr-val list)) (t-fits : t < 2 ^ 64) where
+    (s-fits : s < 2 ^ 64) (d-fits : d < 2 ^ 64) (n-fits : n < 2 ^ 64) (is-list : Is (Records 100) list (records-val list)) (t-fits : t < 2 ^ 64) where
   abbrev x : ℕ × (ℕ × (ℕ × (List Wire × (ℕ × Unit {0}))))
   x = (s, (d, (n, (list, (t, tt)))))
 
   abbrev at : List Val × (List Val × (List Val × (List Val × (List Val × Unit {0}))))
-  at = (vint w64 s ∷ [], (vint w64 d ∷ [], (vint w64 n ∷ [], (arr-val list, (vint w64 t ∷ [], tt)))))
+  at = (vint w64 s ∷ [], (vint w64 d ∷ [], (vint w64 n ∷ [], (records-val list, (vint w64 t ∷ [], tt)))))
 
   abbrev Post : Val → SProp 𝓤
   Post = walkOf 𝓤 H A this.ended stayed (this.clauses 𝓤 H A mem run) .post ((tt, tt, tt, x, at), tt)
@@ -74,7 +75,7 @@ module _ {M : Type 1} (𝓤 : URA M) (H : Heap 𝓤) (A : Atoms 𝓤) (W : Given
   exits : (r : Judged) (u : Val) → r ≡ lentJudged J.strong s d n list t → Is R.the-row r (u ∷ []) → ent 𝓤 (emp 𝓤) (Post u)
   exits r u e g =
       qed W [] ∵ suffices ! _ (ends-at 𝓤 H A this.ended stayed (this.clauses 𝓤 H A mem run) W ((tt, tt, tt, x, at), tt) u r (tt, (tt, (tt, (tt, (tt, tt))))) (tt, (tt, (tt, (tt, (tt, tt)))))) $ says ! e $ nothing ! $ frame ! $
-      nothing ! $ owned ! usize (Is usize) (uint-makes 𝓤 H A W w64) t _ (refl, t-fits) $ fjoin ! $ owned ! (Arr 100) (Is (Arr 100)) (arr-makes 𝓤 H A W 100) list _ is-list $ fjoin ! $ owned ! usize (Is usize) (uint-makes 𝓤 H A W w64) n _ (refl, n-fits) $ fjoin ! $ owned ! usize (Is usize) (uint-makes 𝓤 H A W w64) d _ (refl, d-fits) $ fjoin ! $ owned ! usize (Is usize) (uint-makes 𝓤 H A W w64) s _ (refl, s-fits) $ fjoin ! $ frame ! $ owned ! R.the-row (Is R.the-row) (LL.makes R.the-type R′.the-plain 𝓤 H A) r _ g $ done !
+      nothing ! $ owned ! usize (Is usize) (uint-makes 𝓤 H A W w64) t _ (refl, t-fits) $ fjoin ! $ owned ! (Records 100) (Is (Records 100)) (records-makes 𝓤 H A W 100) list _ is-list $ fjoin ! $ owned ! usize (Is usize) (uint-makes 𝓤 H A W w64) n _ (refl, n-fits) $ fjoin ! $ owned ! usize (Is usize) (uint-makes 𝓤 H A W w64) d _ (refl, d-fits) $ fjoin ! $ owned ! usize (Is usize) (uint-makes 𝓤 H A W w64) s _ (refl, s-fits) $ fjoin ! $ frame ! $ owned ! R.the-row (Is R.the-row) (LL.makes R.the-type R′.the-plain 𝓤 H A) r _ g $ done !
 
   -- the call, of the list that lies in the local l, lent for α under the name γ
   module _ (α l : ℕ) (γ : GName) where
@@ -93,13 +94,13 @@ module _ {M : Type 1} (𝓤 : URA M) (H : Heap 𝓤) (A : Atoms 𝓤) (W : Given
     said r = exE 𝓤 _ (λ us. snd∗ 𝓤 (sem 𝓤 H A (lasts callee.ended (α ∷ [], tt) (s, (d, (n, (refTo list l γ, (t, tt))))) us)) (fact 𝓤 (r ≡ lentJudged J.strong s d n list t)))
 
   walk : (C : Calls 𝓤 H) (Λ : Loops 𝓤 H) (fm : FmC 𝓤 H (W .laws) C) → Triple 𝓤 (C #callee) (Callee 𝓤 H A mem run)
-      → ent 𝓤 (onEntry 𝓤 H A this.signature tt tt x at) (WpFn 𝓤 H C Λ code.function (vint w64 s ∷ vint w64 d ∷ vint w64 n ∷ only (arr-val list) ∷ vint w64 t ∷ []) Post)
+      → ent 𝓤 (onEntry 𝓤 H A this.signature tt tt x at) (WpFn 𝓤 H C Λ code.function (vint w64 s ∷ vint w64 d ∷ vint w64 n ∷ only (records-val list) ∷ vint w64 t ∷ []) Post)
   walk C Λ fm known =
-      qed W (‵ ftrue ∷ ‵ (owns (usize ∷ usize ∷ usize ∷ Arr 100 ∷ usize ∷ []) x at) ∷ []) ∵ toss ! $ toss ! $ enter ! C Λ code.function (vint w64 s ∷ vint w64 d ∷ vint w64 n ∷ only (arr-val list) ∷ vint w64 t ∷ []) _ $
+      qed W (‵ ftrue ∷ ‵ (owns (usize ∷ usize ∷ usize ∷ Records 100 ∷ usize ∷ []) x at) ∷ []) ∵ toss ! $ toss ! $ enter ! C Λ code.function (vint w64 s ∷ vint w64 d ∷ vint w64 n ∷ only (records-val list) ∷ vint w64 t ∷ []) _ $
       alloc1 ! (λ l₀. alloc1 ! (λ l₁. alloc1 ! (λ l₂. alloc1 ! (λ l₃. alloc1 ! (λ l₄. alloc1 ! (λ l₅. alloc1 ! (λ l₆. alloc1 ! (λ l₇. alloc1 ! (λ l₈. alloc0 ! $ params1 ! $
-      pass1 ! (init ! 14 refl (tt, record { fits = s-fits })) $ pass1 ! (init ! 12 refl (tt, record { fits = d-fits })) $ pass1 ! (init ! 10 refl (tt, record { fits = n-fits })) $ pass1 ! (init ! 8 refl (arr-typed 𝓤 H A W 100 list _ is-list .0)) $ pass1 ! (init ! 6 refl (tt, record { fits = t-fits })) $ pass0 ! $
+      pass1 ! (init ! 14 refl (tt, record { fits = s-fits })) $ pass1 ! (init ! 12 refl (tt, record { fits = d-fits })) $ pass1 ! (init ! 10 refl (tt, record { fits = n-fits })) $ pass1 ! (init ! 8 refl (records-typed 𝓤 H A W 100 list _ is-list .0)) $ pass1 ! (init ! 6 refl (tt, record { fits = t-fits })) $ pass0 ! $
       -- [the locals, the last first, each with that it dies]
-      assigns ! (of-opd ! (load ! (from ! (stop !)) (look ! 8 refl))) (from ! (stop !)) (init ! 4 refl (arr-typed 𝓤 H A W 100 list _ is-list .0)) $
+      assigns ! (of-opd ! (load ! (from ! (stop !)) (look ! 8 refl))) (from ! (stop !)) (init ! 4 refl (records-typed 𝓤 H A W 100 list _ is-list .0)) $
       assigns ! (addr ! (from ! (stop !))) (from ! (stop !)) (init ! 2 refl (tt, tt)) $
       assigns ! (agg ! (and-then ! (load ! (from ! (stop !)) (look ! 2 refl)) (and-then ! (lit ! tt) (no-more !)))) (from ! (stop !)) (init ! 0 refl (tt, (tt, (record { fits = lit< tt }, tt)))) $
       rewrite ! 0 (λ (k : ℕ). ‵ (fat fullShare (sliceTy (tyRef erased imm (pointee (T.the-row .written)))) l₈ 0 (sliceVal (l₆, 0) k))) (sym (is-list .1 .0 .1)) refl $
@@ -113,7 +114,7 @@ module _ {M : Type 1} (𝓤 : URA M) (H : Heap 𝓤) (A : Atoms 𝓤) (W : Given
       peeks ! R.the-row (Is R.the-row) (shows 𝓤 H A R.the-row) r (v ∷ []) (λ is.
       land ! (from ! (stop !)) (init ! 18 refl (LL.lawful R.the-type R′.the-laws 𝓤 H A W .typed r _ is .0)) $ toss ! $
       -- [the token; the lender's part; the locals]: the lifetime is over, and the array is the function's again
-      split ! $ lft-end ! tt $ move ! (0 ∷ 2 ∷ []) $ lent-back ! tt $ use1 W (‵ (fat fullShare (τ 100) l₆ 0 (only (arr-val list))) ⊛ ‵ (Arr 100 .own list (arr-val list))) (whole 𝓤 H A W 100 list l₆) $ split ! $ move ! (1 ∷ 2 ∷ []) $ toss ! $ toss ! $
+      split ! $ lft-end ! tt $ move ! (0 ∷ 2 ∷ []) $ lent-back ! tt $ use1 W (‵ (fat fullShare (τ 100) l₆ 0 (only (records-val list))) ⊛ ‵ (Records 100 .own list (records-val list))) (whole 𝓤 H A W 100 list l₆) $ split ! $ move ! (1 ∷ 2 ∷ []) $ toss ! $ toss ! $
       returns ! (look ! 16 refl) $ forget ! 0 refl $ forget ! 1 refl $ forget ! 3 refl $ forget ! 6 refl $ forget ! 8 refl $ forget ! 10 refl $ forget ! 12 refl $ forget ! 14 refl $ forget ! 16 refl $
       move ! (16 ∷ 17 ∷ []) $ free1 ! $ move ! (14 ∷ 15 ∷ []) $ free1 ! $ move ! (12 ∷ 13 ∷ []) $ free1 ! $ move ! (10 ∷ 11 ∷ []) $ free1 ! $ move ! (8 ∷ 9 ∷ []) $ free1 ! $ move ! (6 ∷ 7 ∷ []) $ free1 ! $ move ! (0 ∷ 5 ∷ []) $ free1 ! $ move ! (2 ∷ 3 ∷ []) $ free1 ! $ move ! (0 ∷ 1 ∷ []) $ free1 ! $ free0 ! $
       by ! (exits r v e is))))))))))))))))
@@ -121,8 +122,8 @@ module _ {M : Type 1} (𝓤 : URA M) (H : Heap 𝓤) (A : Atoms 𝓤) (W : Given
 module _ {M : Type 1} (𝓤 : URA M) (H : Heap 𝓤) (A : Atoms 𝓤) (W : Given 𝓤 H A) (mem : Memory → SProp 𝓤) (run : Routine → Fun 𝓤) where
   strong-walks : (C : Calls 𝓤 H) (Λ : Loops 𝓤 H) → FmC 𝓤 H (W .laws) C → Triple 𝓤 (C #callee) (Callee 𝓤 H A mem run) → Walks 𝓤 H A this.ended stayed (WpFn 𝓤 H C Λ code.function) (this.clauses 𝓤 H A mem run)
   strong-walks C Λ fm known = walked 𝓤 H A this.ended stayed (this.clauses 𝓤 H A mem run) (WpFn 𝓤 H C Λ code.function)
-      (λ κs. (uint-vals w64, (uint-vals w64, (uint-vals w64, (arr-val, (uint-vals w64, tt))))))
-      (λ κs. (uint-tells w64, (uint-tells w64, (uint-tells w64, (arr-tells 100, (uint-tells w64, tt))))))
+      (λ κs. (uint-vals w64, (uint-vals w64, (uint-vals w64, (records-val, (uint-vals w64, tt))))))
+      (λ κs. (uint-tells w64, (uint-tells w64, (uint-tells w64, (records-tells 100, (uint-tells w64, tt))))))
       (λ κs qs bounds a g are. via 𝓤 _ (fst∗ 𝓤 _ (emp 𝓤)) (walk 𝓤 H A W mem run (a .0) (a .1 .0) (a .1 .1 .0) (a .1 .1 .1 .0) (a .1 .1 .1 .1 .0)
       (are .0 .1) (are .1 .0 .1) (are .1 .1 .0 .1) (are .1 .1 .1 .0) (are .1 .1 .1 .1 .0 .1) C Λ fm known))
 
@@ -130,7 +131,7 @@ strong-meets : {M : Type 1} (𝓤 : URA M) (H : Heap 𝓤) (A : Atoms 𝓤) → 
     → Meets 𝓤 H A this.signature (WpFn 𝓤 H (𝓣 .C) (𝓣 .Λ) code.function) (this.spec 𝓤 H A mem run)
 strong-meets 𝓤 H A W mem run 𝓣 known =
     walk-meets 𝓤 H A this.ended stayed W
-    (goes-none 𝓤 H A W 0 (λ _. usize) yes (λ κs x f. refl), (goes-none 𝓤 H A W 0 (λ _. usize) yes (λ κs x f. refl), (goes-none 𝓤 H A W 0 (λ _. usize) yes (λ κs x f. refl), (goes-none 𝓤 H A W 0 (λ _. Arr 100) yes (λ κs x f. refl), (goes-none 𝓤 H A W 0 (λ _. usize) yes (λ κs x f. refl), tt)))))
+    (goes-none 𝓤 H A W 0 (λ _. usize) yes (λ κs x f. refl), (goes-none 𝓤 H A W 0 (λ _. usize) yes (λ κs x f. refl), (goes-none 𝓤 H A W 0 (λ _. usize) yes (λ κs x f. refl), (goes-none 𝓤 H A W 0 (λ _. Records 100) yes (λ κs x f. refl), (goes-none 𝓤 H A W 0 (λ _. usize) yes (λ κs x f. refl), tt)))))
     (this.clauses 𝓤 H A mem run) (WpFn 𝓤 H (𝓣 .C) (𝓣 .Λ) code.function) (WpFn-mono 𝓤 H (W .laws) 𝓣 code.function) (strong-walks 𝓤 H A W mem run (𝓣 .C) (𝓣 .Λ) (fmOf 𝓤 H (W .laws) 𝓣) known)
 
 pub strong-spec : {M : Type 1} → stated.statement M
