@@ -22,7 +22,7 @@ use Rattle.records.specs.Fit.{fit-of}
 use Rattle.cones.specs.Making.{fit-sound}
 use Rattle.cones.specs.Seen.{Seen, Sees, seeWire, seeAll, nothing, sees-none, sees-more}
 use Rattle.cones.specs.Spared.{own-closed, cones-closed}
-use Rattle.rule.specs.Passes.{LowProbes}
+use Rattle.step.specs.Passes.{LowProbes}
 use Rattle.rule.specs.Words.{onesOf, someOver}
 use Rattle.rule.specs.Run.{neededBy, needed-is}
 use Rattle.judge.specs.declared.Question.{Question}

@@ -196,7 +196,7 @@ fn set_open(q: Question, g: Grown) -> bool
         return false;
     }
     let ws = q.ws;
-    let probe = rule::probe_marks(set);
+    let probe = step::probe_marks(set);
     let needed = rule::needed_word(q.s, q.d, q.n, ws, probe);
     rule::over(q.s, q.d, needed, bound)
 }

@@ -28,8 +28,8 @@ use Rattle.document.specs.declared.Step.{Step}
 use Rattle.document.specs.declared.Needed.{Needed}
 use Rattle.document.specs.declared.Padded.{Padded}
 use Rattle.records.specs.Fit.{fit-of, a-within, b-within}
+use Rattle.step.specs.Passes.{Wired, LowProbes}
 use Rattle.rule.specs.declared.Run.{Run}
-use Rattle.rule.specs.Passes.{Wired, LowProbes}
 use Rattle.rule.specs.Run.{runOf, neededBy, needed-is, steps-are, len-is}
 use Rattle.rule.specs.Words.{Shares, onesOf, someOver}
 

@@ -1,7 +1,4 @@
--- What the passes of the rule's code follow, their laws, and the answers of the two calls on one set.
-pub mod Passes
-pub mod Consumers
-pub mod Next
+-- What the run of the rule to its end follows, its laws, and the answers of the two calls on one set.
 pub mod Run
 pub mod Words
 pub mod Calls

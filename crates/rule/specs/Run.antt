@@ -18,8 +18,8 @@ use Rattle.document.specs.Laws.Steps.{lowest-some}
 use Rattle.document.specs.Laws.Sound.{within-of}
 use Rattle.document.specs.declared.Wire.{Wire}
 use Rattle.document.specs.declared.Step.{Step}
+use Rattle.step.specs.Passes.{wired}
 use Rattle.rule.specs.declared.Run.{Run}
-use Rattle.rule.specs.Passes.{wired}
 
 -- ---- one step more
 

@@ -4,8 +4,8 @@ use Prim.Native.Nat.{_*_}
 use borrow.Author.Needs.{needs}
 use Rattle.document.specs.Padding.{word, live}
 use Rattle.document.specs.Basics.{at}
+use Rattle.step.specs.Passes.{wired}
 use Rattle.rule.specs.Run.{needed-same}
-use Rattle.rule.specs.Passes.{wired}
 use Rattle.rule.specs.declared.Run.{Run}
 use Rattle.rule.proofs.needed_word.Statement.{statement}
 use Rattle.rule.proofs.needed_word.Tie as tie

@@ -11,9 +11,9 @@ use Rattle.document.specs.Basics.{at}
 use Rattle.document.specs.Padding.{probed, word, live}
 use Rattle.document.specs.ProbeSets.{held}
 use Rattle.document.specs.Routine.{routineOf, recordsFit}
+use Rattle.step.specs.Passes.{wired}
 use Rattle.rule.specs.Calls.{orderIn, probesIn, order-high, probes-low, wired-of, shares-of, pads-records, pads-order, pads-probes, pads-answer}
 use Rattle.rule.specs.Run.{runOf, neededBy, run-same, needed-same}
-use Rattle.rule.specs.Passes.{wired}
 use Rattle.rule.specs.declared.Run.{Run}
 use Rattle.rule.proofs.pads.Statement.{statement}
 use Rattle.rule.proofs.pads.Tie as tie

@@ -10,10 +10,10 @@ use lib.Seq.{length-take-le}
 use lib.ListN.{replicate}
 use Rattle.document.specs.Padding.{nextStep}
 use Rattle.document.specs.Judgements.{noStep}
+use Rattle.step.specs.Next.{found}
+use Rattle.step.specs.Passes.{wired}
 use Rattle.rule.specs.Run.{goneOn, begun, run-full, run-ended, run-more, next-below, run-all}
 use Rattle.rule.specs.declared.Run.{Run}
-use Rattle.rule.specs.Next.{found}
-use Rattle.rule.specs.Passes.{wired}
 use Rattle.rule.proofs.run_to_end.Statement.{statement}
 use Rattle.rule.proofs.run_to_end.Tie as tie
 

@@ -1,0 +1,4 @@
+-- What the passes over the wires and the search for the next step follow, and their laws.
+pub mod Passes
+pub mod Consumers
+pub mod Next
