@@ -10,8 +10,6 @@ use document::Written;
 use lent::Filled;
 use second::judging;
 use second::padding;
-use second::running;
-use second::spelling;
 use second::splitting;
 use second::wires;
 
@@ -107,84 +105,38 @@ fn few(ws: [Wire; 128]) -> [Wire; 100] {
     list
 }
 
-// A routine of more wires than the list has records is none that the list holds: as one of 129 wires.
-fn held(n: usize) -> usize {
-    if n <= 100 {
-        return n;
+// The n of the other answer: a routine of more wires than the list has records is none that the list holds, as one of 129 wires.
+pub fn held(listed: bool, n: usize) -> usize {
+    if listed & (100 < n) {
+        return 129;
     }
-    129
+    n
 }
 
-// ---- writing and running
+// ---- writing and running, on values or from a list
 
-fn write_first(buf: &mut [u8], room: usize, g: Draft, list: [Wire; 100]) -> Written {
-    if room <= buf.len() {
-        return lending::write(g.s, g.d, g.n, list, &mut buf[..room]);
-    }
-    lending::write(g.s, g.d, g.n, list, buf)
-}
-
-pub fn compare_write(t: [u64; 64], g: Draft, room: usize) -> [u64; 64] {
-    let mut x = [42u8; 4096];
-    let mut y = [42u8; 4096];
+pub fn write(listed: bool, g: Draft, buf: &mut [u8]) -> Written {
     let ws = g.wires;
-    let r = write_first(&mut x, room, g, few(ws));
-    let own = spelling::write(g.s, g.d, held(g.n), ws, &mut y, room);
-    let o = r.outcome;
-    let same = (same::number(o) == own.refusal) & (r.len == own.len) & same::same_bytes(&x, &y);
-    tally::compared(t, tally::LENT_WRITINGS, same)
-}
-
-fn run_first(
-    buf: &mut [u8],
-    room: usize,
-    g: Draft,
-    list: [Wire; 100],
-    shares: u64,
-    randoms: u64,
-    publics: u64,
-) -> Ran {
-    if room <= buf.len() {
-        return lending::run(
-            g.s,
-            g.d,
-            g.n,
-            list,
-            shares,
-            randoms,
-            publics,
-            &mut buf[..room],
-        );
+    if listed {
+        return lending::write(g.s, g.d, g.n, few(ws), buf);
     }
-    lending::run(g.s, g.d, g.n, list, shares, randoms, publics, buf)
+    writer::write(g.s, g.d, g.n, ws, buf)
 }
 
-fn length_of(refusal: u64, n: usize) -> usize {
-    if refusal == 0 {
-        return n;
-    }
-    0
+// The words of bits of a run.
+pub struct Bits {
+    pub shares: u64,
+    pub randoms: u64,
+    pub publics: u64,
 }
 
-pub fn compare_run(
-    t: [u64; 64],
-    g: Draft,
-    room: usize,
-    shares: u64,
-    randoms: u64,
-    publics: u64,
-) -> [u64; 64] {
+pub fn run(listed: bool, g: Draft, b: Bits, buf: &mut [u8]) -> Ran {
     let ws = g.wires;
-    let n = held(g.n);
-    let mut x = [42u8; 140];
-    let mut y = [42u8; 140];
-    let r = run_first(&mut x, room, g, few(ws), shares, randoms, publics);
-    let refusal = running::run(g.s, g.d, n, ws, shares, randoms, publics, &mut y, room);
-    let o = r.outcome;
-    let same = (same::number(o) == refusal)
-        & (r.len == length_of(refusal, n))
-        & same::same_bytes(&x, &y);
-    tally::compared(t, tally::LENT_RUNS, same)
+    if listed {
+        let list = few(ws);
+        return lending::run(g.s, g.d, g.n, list, b.shares, b.randoms, b.publics, buf);
+    }
+    runner::run(g.s, g.d, g.n, ws, b.shares, b.randoms, b.publics, buf)
 }
 
 // ---- one probe set

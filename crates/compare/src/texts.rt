@@ -2,6 +2,7 @@
 use crate::chance;
 use crate::damaging;
 use crate::lists;
+use crate::lists::Bits;
 use crate::making;
 use crate::making::Draft;
 use crate::same;
@@ -77,26 +78,32 @@ pub fn compare_next(t: [u64; 64], g: Draft) -> [u64; 64] {
 
 // ---- writing
 
-fn write_first(buf: &mut [u8], room: usize, g: Draft) -> Written {
-    let ws = g.wires;
+fn write_first(listed: bool, buf: &mut [u8], room: usize, g: Draft) -> Written {
     if room <= buf.len() {
-        return writer::write(g.s, g.d, g.n, ws, &mut buf[..room]);
+        return lists::write(listed, g, &mut buf[..room]);
     }
-    writer::write(g.s, g.d, g.n, ws, buf)
+    lists::write(listed, g, buf)
 }
 
 // Both buffers are compared whole, also behind the text and after a refusal.
-fn compare_write(t: [u64; 64], g: Draft, room: usize) -> [u64; 64] {
+fn compare_written(t: [u64; 64], listed: bool, g: Draft, room: usize) -> [u64; 64] {
     let mut x = [42u8; 4096];
     let mut y = [42u8; 4096];
     let ws = g.wires;
-    let r = write_first(&mut x, room, g);
-    let own = spelling::write(g.s, g.d, g.n, ws, &mut y, room);
+    let n = lists::held(listed, g.n);
+    let r = write_first(listed, &mut x, room, g);
+    let own = spelling::write(g.s, g.d, n, ws, &mut y, room);
     let o = r.outcome;
     let same = (same::number(o) == own.refusal) & (r.len == own.len) & same::same_bytes(&x, &y);
-    let u = tally::compared(t, tally::WRITINGS, same);
-    let v = lists::compare_write(u, g, room);
-    tally::refused(v, own.refusal)
+    if listed {
+        return tally::compared(t, tally::LENT_WRITINGS, same);
+    }
+    tally::refused(tally::compared(t, tally::WRITINGS, same), own.refusal)
+}
+
+fn compare_write(t: [u64; 64], g: Draft, room: usize) -> [u64; 64] {
+    let u = compare_written(t, false, g, room);
+    compare_written(u, true, g, room)
 }
 
 // Into so many bytes as the text has, one more or one less.
@@ -116,28 +123,11 @@ pub fn compare_writing(t: [u64; 64], g: Draft, seed: u64) -> [u64; 64] {
 
 // ---- running
 
-fn run_first(
-    buf: &mut [u8],
-    room: usize,
-    g: Draft,
-    shares: u64,
-    randoms: u64,
-    publics: u64,
-) -> Ran {
-    let ws = g.wires;
+fn run_first(listed: bool, buf: &mut [u8], room: usize, g: Draft, b: Bits) -> Ran {
     if room <= buf.len() {
-        return runner::run(
-            g.s,
-            g.d,
-            g.n,
-            ws,
-            shares,
-            randoms,
-            publics,
-            &mut buf[..room],
-        );
+        return lists::run(listed, g, b, &mut buf[..room]);
     }
-    runner::run(g.s, g.d, g.n, ws, shares, randoms, publics, buf)
+    lists::run(listed, g, b, buf)
 }
 
 // A word of random bits: mostly only the first `count`.
@@ -159,22 +149,42 @@ fn length_of(refusal: u64, n: usize) -> usize {
     0
 }
 
-fn compare_run(t: [u64; 64], g: Draft, seed: u64, room: usize) -> [u64; 64] {
-    let ws = g.wires;
-    let shares = bits_drawn(seed, 43, wires::shares(g.s, g.d));
-    let randoms = bits_drawn(seed, 44, wires::count_kind(g.n, ws, 1));
-    let publics = bits_drawn(seed, 45, wires::count_kind(g.n, ws, 2));
+fn compare_ran(t: [u64; 64], listed: bool, g: Draft, b: Bits, room: usize) -> [u64; 64] {
     let mut x = [42u8; 140];
     let mut y = [42u8; 140];
-    let r = run_first(&mut x, room, g, shares, randoms, publics);
-    let refusal = running::run(g.s, g.d, g.n, ws, shares, randoms, publics, &mut y, room);
+    let ws = g.wires;
+    let n = lists::held(listed, g.n);
+    let r = run_first(listed, &mut x, room, g, b);
+    let refusal = running::run(
+        g.s,
+        g.d,
+        n,
+        ws,
+        b.shares,
+        b.randoms,
+        b.publics,
+        &mut y,
+        room,
+    );
     let o = r.outcome;
     let same = (same::number(o) == refusal)
-        & (r.len == length_of(refusal, g.n))
+        & (r.len == length_of(refusal, n))
         & same::same_bytes(&x, &y);
-    let u = tally::compared(t, tally::RUNS, same);
-    let v = lists::compare_run(u, g, room, shares, randoms, publics);
-    tally::refused(v, refusal)
+    if listed {
+        return tally::compared(t, tally::LENT_RUNS, same);
+    }
+    tally::refused(tally::compared(t, tally::RUNS, same), refusal)
+}
+
+fn compare_run(t: [u64; 64], g: Draft, seed: u64, room: usize) -> [u64; 64] {
+    let ws = g.wires;
+    let b = Bits {
+        shares: bits_drawn(seed, 43, wires::shares(g.s, g.d)),
+        randoms: bits_drawn(seed, 44, wires::count_kind(g.n, ws, 1)),
+        publics: bits_drawn(seed, 45, wires::count_kind(g.n, ws, 2)),
+    };
+    let u = compare_ran(t, false, g, b, room);
+    compare_ran(u, true, g, b, room)
 }
 
 // Into so many bytes as there are wires, a few more, or one less.
