@@ -52,10 +52,10 @@ pub fn read(text: &[u8], list: [Wire; 130]) -> After
 }
 
 // Reads a routine text into a list of 127 records, which is one too few.
-pub fn read_short(text: &[u8], list: [Wire; 127]) -> AfterShort
-    ensures { λ r. ⌜ Answered (now (text .entry)) list (r .answer) (r .list) ⌝ }
+pub fn read_short(text: &[u8], short: [Wire; 127]) -> AfterShort
+    ensures { λ r. ⌜ Answered (now (text .entry)) short (r .answer) (r .list) ⌝ }
 {
-    let mut own = list;
+    let mut own = short;
     let answer = lent::read(text, &mut own);
     both_short(answer, own)
 }
