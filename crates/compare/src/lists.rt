@@ -7,7 +7,6 @@ use document::ProbeSet;
 use document::Ran;
 use document::Wire;
 use document::Written;
-use lent::Filled;
 use second::judging;
 use second::padding;
 use second::splitting;
@@ -23,15 +22,6 @@ fn content() -> Wire {
         b: 3,
         out: true,
     }
-}
-
-fn same_answer(f: Filled, own: splitting::Text) -> bool {
-    let o = f.outcome;
-    (same::number(o) == own.refusal)
-        & (f.line == own.line)
-        & (f.s == own.s)
-        & (f.d == own.d)
-        & (f.n == own.n)
 }
 
 // The record k of the list afterwards: the routine's below n, and the old content from n on.
@@ -59,7 +49,7 @@ fn compare_long(t: [u64; 64], text: &[u8], own: splitting::Text) -> [u64; 64] {
     let r = lending::read(text, [content(); 130]);
     let f = r.answer;
     let list = r.list;
-    let same = same_answer(f, own) & same_list(list, own);
+    let same = same::same_answer(f, own) & same_list(list, own);
     tally::compared(t, tally::LENT_READS, same)
 }
 

@@ -9,6 +9,7 @@ use document::Read;
 use document::Refusal;
 use document::Step;
 use document::Verdict;
+use lent::Filled;
 use second::adding;
 use second::judging;
 use second::padding;
@@ -45,14 +46,24 @@ pub fn number(o: Outcome) -> u64 {
     }
 }
 
+// The answer of a read but for the records.
+pub fn same_answer(f: Filled, t: splitting::Text) -> bool {
+    let o = f.outcome;
+    (number(o) == t.refusal) & (f.line == t.line) & (f.s == t.s) & (f.d == t.d) & (f.n == t.n)
+}
+
 pub fn same_read(r: Read, t: splitting::Text) -> bool {
-    let o = r.outcome;
-    if (number(o) != t.refusal) | (r.line != t.line) | (r.s != t.s) | (r.d != t.d) | (r.n != t.n) {
-        return false;
-    }
+    let outcome = r.outcome;
+    let answer = Filled {
+        outcome,
+        line: r.line,
+        s: r.s,
+        d: r.d,
+        n: r.n,
+    };
     let vs = r.wires;
     let ws = t.wires;
-    wires::same_first(t.n, vs, ws)
+    same_answer(answer, t) & wires::same_first(t.n, vs, ws)
 }
 
 // All four places, also those past the end.
