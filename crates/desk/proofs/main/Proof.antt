@@ -1,34 +1,37 @@
 -- `desk::main` keeps within its two buffers.
 use mathlib.Core.Path.{sym}
-use borrow.Author.Needs.{needs}
+use lib.ListN.{length}
 use lib.Seq.{length-take-le}
-use Rattle.report.specs.Reports.{within}
+use borrow.Author.Needs.{needs}
+use Rattle.intake.specs.Intake.{ended-within}
+use Rattle.buffer.specs.Filled.{within}
 use Rattle.desk.proofs.main.Statement.{statement}
 use Rattle.desk.proofs.main.Tie as tie
 
-slice-aggregate-read-full : tie.Need-slice-aggregate-read-full
-slice-aggregate-read-full c = search needs
+slice-aggregate-read-whole : tie.Need-slice-aggregate-read-whole
+slice-aggregate-read-whole c = search needs
 
-read-full-requires : tie.Need-read-full-requires
-read-full-requires c κs = search needs
+read-whole-requires : tie.Need-read-whole-requires
+read-whole-requires c κs = search needs
 
-array-share-prefix-text : tie.Need-array-share-prefix-text
-array-share-prefix-text c = search needs
+slice-aggregate-answer : tie.Need-slice-aggregate-answer
+slice-aggregate-answer c = search needs
 
-slice-aggregate-report : tie.Need-slice-aggregate-report
-slice-aggregate-report c = search needs
-
-report-requires : tie.Need-report-requires
-report-requires c κs = search needs
+answer-requires : tie.Need-answer-requires
+answer-requires c κs = let r = c .before .before .before .read-whole in
+    ended-within (r .result .input) (r .result .last) (length (r .last .1 .0)) (r .ensures)
 
 array-share-prefix-out : tie.Need-array-share-prefix-out
-array-share-prefix-out c = within (c .report .ensures)
+array-share-prefix-out c = within (c .answer .ensures)
 
 slice-aggregate-write-all : tie.Need-slice-aggregate-write-all
-slice-aggregate-write-all c = let r = c .before .report in sym (length-take-le (r .result) (r .last .1 .0) (within (r .ensures)))
+slice-aggregate-write-all c = let r = c .before .answer in sym (length-take-le (r .result) (r .last .1 .1 .0) (within (r .ensures)))
 
 write-all-requires : tie.Need-write-all-requires
 write-all-requires c κs = search needs
+
+complain-requires : tie.Need-complain-requires
+complain-requires c κs = search needs
 
 returns : tie.Need-returns
 returns c = search needs
@@ -37,12 +40,12 @@ pub main-spec : {M : Type 1} → statement M
 main-spec =
     tie.close
     (tie.spec
-    slice-aggregate-read-full
-    read-full-requires
-    array-share-prefix-text
-    slice-aggregate-report
-    report-requires
+    slice-aggregate-read-whole
+    read-whole-requires
+    slice-aggregate-answer
+    answer-requires
     array-share-prefix-out
     slice-aggregate-write-all
     write-all-requires
+    complain-requires
     returns)

@@ -1,0 +1,26 @@
+-- What the desk program prints of its input.
+use mathlib.Core.Path.{refl}
+use mathlib.Core.List.{List, []}
+use Prim.Native.Nat.{ℕ}
+use lib.ListN.{take}
+use Rattle.buffer.specs.Filled.{Filled}
+use Rattle.document.specs.Desk.{deskPrints}
+use Rattle.intake.specs.declared.Input.{Input}
+use Rattle.intake.specs.declared.Input.the-variants.{Whole, Failed}
+
+-- a whole input is answered as its text is; of one that failed nothing is printed, whatever of it was read
+unfoldable pub deskAnswers : Input → List ℕ → List ℕ
+deskAnswers (Whole n) bytes = deskPrints (take n bytes)
+deskAnswers Failed bytes = []
+
+-- the buffer holds what is printed of the input whose bytes are these, r bytes
+abbrev pub Answered : Input → List ℕ → List ℕ → ℕ → List ℕ → Type 0
+Answered input bytes buffer r after = Filled (deskAnswers input bytes) buffer r after
+
+pub whole-answered : (n : ℕ) (bytes : List ℕ) {buffer : List ℕ} {r : ℕ} {after : List ℕ} → Filled (deskPrints (take n bytes)) buffer r after → Answered (Whole n) bytes buffer r after
+unfolding deskAnswers
+whole-answered n bytes p = p
+
+pub failed-answered : (bytes buffer : List ℕ) → Answered Failed bytes buffer 0 buffer
+unfolding deskAnswers
+failed-answered bytes buffer = record { said = refl; left = refl }

@@ -1,0 +1,2 @@
+-- What a read call's answer means.
+pub mod Intake
