@@ -1,28 +1,28 @@
--- What a read call's answer means, and when an input is whole.
+-- Where an input stands after a read call, and when it is whole.
 use mathlib.Core.Path.{_≡_}
-use Prim.Native.Nat.{ℕ, zero, suc, _≤_, _<_}
+use Prim.Native.Nat.{ℕ, zero, suc, _+_, _≤_, _<_}
 use lib.IntN.{ℤ, pos, negsuc}
-use Rattle.intake.specs.declared.Got.{Got}
-use Rattle.intake.specs.declared.Got.the-variants as Gives
+use Rattle.intake.specs.declared.Stand.{Stand}
+use Rattle.intake.specs.declared.Stand.the-variants as Stands
 use Rattle.intake.specs.declared.Input.{Input}
 use Rattle.intake.specs.declared.Input.the-variants as Is
 
--- 0 is the end of the input and nothing else is; a number below 0 is a failure
-unfoldable pub gotOf : ℤ → Got
-gotOf (pos zero) = Gives.End
-gotOf (pos (suc k)) = Gives.More (suc k)
-gotOf (negsuc k) = Gives.Failed
+-- `done` bytes came before the read. It answers 0 at the end of the input and only there, a number below 0 where it fails, and else how many bytes it added
+unfoldable pub afterRead : ℕ → ℤ → Stand
+afterRead done (pos zero) = Stands.All done
+afterRead done (pos (suc k)) = Stands.More (done + suc k)
+afterRead done (negsuc k) = Stands.Failed
 
--- what an input is by the answer of its last read: whole where there is no room for more or that read found the end, failed where it failed
-abbrev pub Ended : Input → ℤ → ℕ → Type 0
-Ended (Is.Whole n) last room = (n ≤ room) × (n < room → gotOf last ≡ Gives.End)
-Ended Is.Failed last room = gotOf last ≡ Gives.Failed
+-- what an input is by its last read: whole where there is no room for more or that read found its end just there, failed where that read failed
+abbrev pub Ended : Input → ℕ → ℤ → ℕ → Type 0
+Ended (Is.Whole n) done last room = (n ≤ room) × (n < room → afterRead done last ≡ Stands.All n)
+Ended Is.Failed done last room = afterRead done last ≡ Stands.Failed
 
 -- a whole input lies within the room
 abbrev pub Within : Input → ℕ → Type 0
 Within (Is.Whole n) room = n ≤ room
 Within Is.Failed room = Unit {0}
 
-pub ended-within : (input : Input) (last : ℤ) (room : ℕ) → Ended input last room → Within input room
-ended-within (Is.Whole n) last room e = e .0
-ended-within Is.Failed last room e = tt
+pub ended-within : (input : Input) (done : ℕ) (last : ℤ) (room : ℕ) → Ended input done last room → Within input room
+ended-within (Is.Whole n) done last room e = e .0
+ended-within Is.Failed done last room e = tt

@@ -19,7 +19,7 @@ slice-aggregate-answer c = search needs
 
 answer-requires : tie.Need-answer-requires
 answer-requires c κs = let r = c .before .before .before .read-whole in
-    ended-within (r .result .input) (r .result .last) (length (r .last .1 .0)) (r .ensures)
+    ended-within (r .result .input) (r .result .done) (r .result .last) (length (r .last .1 .0)) (r .ensures)
 
 array-share-prefix-out : tie.Need-array-share-prefix-out
 array-share-prefix-out c = within (c .answer .ensures)
