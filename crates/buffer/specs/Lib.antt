@@ -1,3 +1,3 @@
 -- Bytes put into a lent buffer.
 pub mod Put
-pub mod Filled
+pub mod Begins

@@ -3,7 +3,7 @@ use mathlib.Core.Path.{refl}
 use mathlib.Core.List.{List, []}
 use Prim.Native.Nat.{ℕ}
 use lib.ListN.{take}
-use Rattle.buffer.specs.Filled.{Filled}
+use Rattle.buffer.specs.Begins.{Begins}
 use Rattle.document.specs.Desk.{deskPrints}
 use Rattle.intake.specs.declared.Input.{Input}
 use Rattle.intake.specs.declared.Input.the-variants.{Whole, Failed}
@@ -15,9 +15,9 @@ deskAnswers Failed bytes = []
 
 -- the buffer holds what is printed of the input whose bytes are these, r bytes
 abbrev pub Answered : Input → List ℕ → List ℕ → ℕ → List ℕ → Type 0
-Answered input bytes buffer r after = Filled (deskAnswers input bytes) buffer r after
+Answered input bytes buffer r after = Begins (deskAnswers input bytes) buffer r after
 
-pub whole-answered : (n : ℕ) (bytes : List ℕ) {buffer : List ℕ} {r : ℕ} {after : List ℕ} → Filled (deskPrints (take n bytes)) buffer r after → Answered (Whole n) bytes buffer r after
+pub whole-answered : (n : ℕ) (bytes : List ℕ) {buffer : List ℕ} {r : ℕ} {after : List ℕ} → Begins (deskPrints (take n bytes)) buffer r after → Answered (Whole n) bytes buffer r after
 unfolding deskAnswers
 whole-answered n bytes p = p
 

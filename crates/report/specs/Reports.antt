@@ -8,12 +8,12 @@ use Rattle.document.specs.Reading.{reading}
 use Rattle.document.specs.Desk.{readLines, deskPrints}
 use Rattle.document.specs.declared.Read.{Read}
 use Rattle.buffer.specs.Put.{Put, wrote, wrote-first}
-use Rattle.buffer.specs.Filled.{Filled}
+use Rattle.buffer.specs.Begins.{Begins}
 use Rattle.report.specs.Orders.{desk-few}
 
 -- the buffer holds what is printed for the text, r bytes
 abbrev pub Reported : List ℕ → List ℕ → ℕ → List ℕ → Type 0
-Reported text buffer r after = Filled (deskPrints text) buffer r after
+Reported text buffer r after = Begins (deskPrints text) buffer r after
 
 -- what was read, put into the buffer
 pub reported : {buffer after : List ℕ} {r : ℕ} (text : List ℕ) (got : Read) → got ≡ reading text → 1104 ≤ length buffer → Put buffer 0 (readLines (got .outcome) got) r after → Reported text buffer r after

@@ -4,7 +4,7 @@ use lib.ListN.{length}
 use lib.Seq.{length-take-le}
 use borrow.Author.Needs.{needs}
 use Rattle.intake.specs.Intake.{ended-within}
-use Rattle.buffer.specs.Filled.{within}
+use Rattle.buffer.specs.Begins.{within}
 use Rattle.desk.proofs.main.Statement.{statement}
 use Rattle.desk.proofs.main.Tie as tie
 
