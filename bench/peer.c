@@ -1,4 +1,4 @@
-/* The plain judgement written straight from the document, as the peer to time against: byte marks, the lowest wire first,
+/* The plain judgement written straight from the specification, as the peer to time against: byte marks, the lowest wire first,
  * live wires found again after each step, every set run to its end. It reads a routine that is known to be well formed.
  * Usage: peer ORDER < routine */
 #include <stdio.h>

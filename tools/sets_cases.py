@@ -1,8 +1,8 @@
 #!/usr/bin/env python3
-"""The cases of crate `sets`, and what each should give, by a model of its own written from the document.
+"""The cases of crate `test_sets`, and what each should give, by a model of its own written from the specification.
 
-    tools/sets_cases.py stdin  > crates/sets/stdin     the routines, each ended by a zero byte
-    tools/sets_cases.py stdout > crates/sets/stdout    what the program should print
+    tools/sets_cases.py stdin  > crates/test_sets/stdin     the routines, each ended by a zero byte
+    tools/sets_cases.py stdout > crates/test_sets/stdout    what the program should print
 """
 import sys
 from itertools import combinations
@@ -23,7 +23,7 @@ def emitter(lines, first):
 
 
 def sec_mult(d):
-    """SecMult of document 000, gadget 7: each assignment a new wire, operands in the printed order."""
+    """SecMult (Barthe, Belaïd, Dupressoir, Fouque, Grégoire, Strub and Zucchini, "Strong non-interference and type-directed higher-order masking", 2016; gadget 7): each assignment a new wire, operands in the printed order."""
     lines = [f"routine 2 {d}"]
     emit = emitter(lines, 2 * d)
     c = [emit("and", i, d + i) for i in range(d)]
@@ -38,7 +38,7 @@ def sec_mult(d):
 
 
 def refresh_m(d):
-    """RefreshM of document 000, gadget 4b."""
+    """RefreshM of the same paper, gadget 4b."""
     lines = [f"routine 1 {d}"]
     emit = emitter(lines, d)
     c = list(range(d))

@@ -1,8 +1,8 @@
 #!/usr/bin/env python3
-"""The cases of crate `texts`, and what each should give, by a model of its own written from the document.
+"""The cases of crate `test_texts`, and what each should give, by a model of its own written from the specification.
 
-    tools/texts_cases.py stdin  > crates/texts/stdin     the texts, each ended by a zero byte
-    tools/texts_cases.py stdout > crates/texts/stdout    what the program should print
+    tools/texts_cases.py stdin  > crates/test_texts/stdin     the texts, each ended by a zero byte
+    tools/texts_cases.py stdout > crates/test_texts/stdout    what the program should print
 """
 import re
 import sys

@@ -4,7 +4,8 @@ ghost use Prim.Native.Nat.{_+_, _≤_, _<_};
 ghost use lib.ListN.{length};
 ghost use Rattle.buffer.specs.Put.{Put};
 
-pub fn put_byte(buf: &mut [u8], at: usize, b: u8) -> usize
+// One byte, put at `at`; the place behind it.
+pub fn put_byte(b: u8, at: usize, buf: &mut [u8]) -> usize
     requires { ⌜ at < length (now buf) ⌝ }
     ensures { λ r. ⌜ Put (now (buf .entry)) at (b ∷ []) r (now (buf .exit)) ⌝ }
 {
@@ -12,7 +13,8 @@ pub fn put_byte(buf: &mut [u8], at: usize, b: u8) -> usize
     at + 1
 }
 
-pub fn put_word(buf: &mut [u8], at: usize, word: &[u8]) -> usize
+// The bytes of a word, put from `at` on; the place behind them.
+pub fn put_word(word: &[u8], at: usize, buf: &mut [u8]) -> usize
     requires { ⌜ at + length (now word) ≤ length (now buf) ⌝ }
     ensures { λ r. ⌜ Put (now (buf .entry)) at (now (word .entry)) r (now (buf .exit)) ⌝ }
 {

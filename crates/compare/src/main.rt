@@ -1,16 +1,13 @@
 // Random routines from a fixed seed: every public call of the product compared with an answer found by other means.
-mod chance;
-mod damaging;
-mod judged;
-mod lists;
-mod making;
-mod same;
-mod sets;
-mod tally;
-mod texts;
-
-use crate::making::Draft;
-use second::spelling;
+use compare_answers::tally;
+use compare_calls::texts;
+use compare_judging::judged;
+use compare_judging::sets;
+use compare_making::chance;
+use compare_making::making;
+use compare_making::spoiling;
+use compare_texts::spelling;
+use document::Listing;
 
 const SEED: u64 = 20261115;
 
@@ -65,32 +62,42 @@ fn say_routines() {
     say(b"\n");
 }
 
-fn say_lists(t: [u64; 64]) {
+fn say_texts(t: [u64; 64]) {
+    say_kind(t, b"texts read", tally::TEXTS);
+    say_kind(t, b"damaged texts read", tally::DAMAGED);
+    say_kind(t, b"routines written", tally::WRITINGS);
+    say_kind(t, b"routines run", tally::RUNS);
+    say_kind(t, b"lists of records tested", tally::RECORDS);
+}
+
+fn say_sets(t: [u64; 64]) {
+    say_kind(t, b"additions to a set", tally::ADDITIONS);
+    say_kind(t, b"sets, needed shares", tally::NEEDED);
+    say_kind(t, b"sets, steps", tally::STEPS);
+    say_kind(t, b"plain judgements", tally::PLAIN);
+    say_kind(t, b"strong judgements", tally::STRONG);
+}
+
+fn say_list_texts(t: [u64; 64]) {
     say_kind(t, b"texts read into a lent list", tally::LENT_READS);
     say_kind(t, b"texts read into too short a list", tally::LENT_SHORT);
     say_kind(t, b"routines written from a list", tally::LENT_WRITINGS);
     say_kind(t, b"routines run from a list", tally::LENT_RUNS);
+}
+
+fn say_list_sets(t: [u64; 64]) {
     say_kind(t, b"sets of a list, needed shares", tally::LENT_NEEDED);
     say_kind(t, b"sets of a list, steps", tally::LENT_STEPS);
     say_kind(t, b"plain judgements of a list", tally::LENT_PLAIN);
     say_kind(t, b"strong judgements of a list", tally::LENT_STRONG);
 }
 
-fn say_all(t: [u64; 64]) {
-    say_routines();
-    say_kind(t, b"texts read", tally::TEXTS);
-    say_kind(t, b"damaged texts read", tally::DAMAGED);
-    say_kind(t, b"routines written", tally::WRITINGS);
-    say_kind(t, b"routines run", tally::RUNS);
-    say_kind(t, b"lists of records tested", tally::RECORDS);
-    say_kind(t, b"additions to a set", tally::ADDITIONS);
-    say_kind(t, b"sets, needed shares", tally::NEEDED);
-    say_kind(t, b"sets, steps", tally::STEPS);
-    say_kind(t, b"plain judgements", tally::PLAIN);
-    say_kind(t, b"strong judgements", tally::STRONG);
-    say_lists(t);
+fn say_orders(t: [u64; 64]) {
     say_kind(t, b"sets of a plain pass, starts counted", tally::EVEN);
     say_kind(t, b"orders above a plain judgement", tally::LOWER);
+}
+
+fn say_answers(t: [u64; 64]) {
     say_count(t, b"plain judgements that pass:", tally::PLAIN_PASS);
     say_count(t, b"plain judgements that are open:", tally::PLAIN_OPEN);
     say_count(t, b"strong judgements that pass:", tally::STRONG_PASS);
@@ -98,17 +105,26 @@ fn say_all(t: [u64; 64]) {
     say_count(t, b"sets that are not open:", tally::SETS_CLOSED);
     say_count(t, b"sets that are open:", tally::SETS_OPEN);
     say_count(t, b"steps made:", tally::STEPS_MADE);
+}
+
+fn say_all(t: [u64; 64]) {
+    say_routines();
+    say_texts(t);
+    say_sets(t);
+    say_list_texts(t);
+    say_list_sets(t);
+    say_orders(t);
+    say_answers(t);
     say_refusals(t);
 }
 
 // The routine's text, if the answers differ in more than before it.
-fn show(t: [u64; 64], u: [u64; 64], g: Draft) {
+fn show(t: [u64; 64], u: [u64; 64], g: Listing) {
     if tally::differences(t) == tally::differences(u) {
         return;
     }
-    let ws = g.wires;
     let mut text = [32u8; 4096];
-    spelling::text(&mut text, g.s, g.d, g.n, ws);
+    spelling::text(g, &mut text);
     say(b"answers differ at this routine, or at what was made of it:\n");
     say(&text);
 }
@@ -116,8 +132,8 @@ fn show(t: [u64; 64], u: [u64; 64], g: Draft) {
 // ---- the routines
 
 // Every call but the judgements, on the routine and on what a spoiling makes of it.
-fn compare_calls(t: [u64; 64], g: Draft, seed: u64, sets: u64) -> [u64; 64] {
-    let t1 = texts::compare_texts(t, g, chance::draw(seed, 1));
+fn compare_calls(t: [u64; 64], g: Listing, seed: u64, sets: u64) -> [u64; 64] {
+    let t1 = texts::compare_reading(t, g, chance::draw(seed, 1));
     let t2 = texts::compare_writing(t1, g, chance::draw(seed, 2));
     let t3 = texts::compare_running(t2, g, chance::draw(seed, 3));
     let t4 = texts::compare_records(t3, g);
@@ -126,13 +142,13 @@ fn compare_calls(t: [u64; 64], g: Draft, seed: u64, sets: u64) -> [u64; 64] {
     compare_spoiled(t6, g, chance::draw(seed, 6))
 }
 
-fn compare_spoiled(t: [u64; 64], g: Draft, seed: u64) -> [u64; 64] {
-    let h = texts::spoiled(g, seed);
+fn compare_spoiled(t: [u64; 64], g: Listing, seed: u64) -> [u64; 64] {
+    let h = spoiling::spoiled(g, seed);
     let t0 = texts::compare_text(t, h);
     let t1 = texts::compare_records(t0, h);
     let t2 = texts::compare_writing(t1, h, seed);
     let t3 = texts::compare_running(t2, h, seed);
-    let t4 = texts::compare_records(t3, texts::spoiled(h, chance::draw(seed, 7)));
+    let t4 = texts::compare_records(t3, spoiling::spoiled(h, chance::draw(seed, 7)));
     sets::compare_sets(t4, h, seed, 1)
 }
 
@@ -159,7 +175,7 @@ fn compare_all_small(t: [u64; 64]) -> [u64; 64] {
 fn compare_large(t: [u64; 64], seed: u64) -> [u64; 64] {
     let g = making::large(chance::draw(seed, 9));
     let u = compare_calls(t, g, seed, 4);
-    let v = judged::compare_order(u, texts::spoiled(g, seed), 1);
+    let v = judged::compare_order(u, spoiling::spoiled(g, seed), 1);
     let w = judged::compare_order(v, g, 5);
     show(t, w, g);
     w

@@ -1,8 +1,6 @@
--- Cones of wires and own randoms, and what they spare a judgement.
-pub mod Cone
-pub mod Own
+-- The tables of the cones, how they are made, and what is seen of a set by them; and the laws about them.
 pub mod Bits
 pub mod Tables
-pub mod Seen
-pub mod Spared
 pub mod Making
+pub mod Seen
+pub mod Laws

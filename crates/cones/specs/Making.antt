@@ -1,26 +1,15 @@
--- The tables as the code makes them: the words of one wire from its record and the words of earlier wires, and a wire more.
-use mathlib.Core.Path.{_≡_, refl, sym, ap, ap₂, _∙_}
-use mathlib.Core.Bool.{true, cond}
-use mathlib.Core.Logic.{inl, inr}
-use mathlib.Core.List.{List, [], _∷_, _++_}
-use Prim.Native.Nat.{ℕ, _+_, _*_, _^_, _<_}
-use native.Mathlib.Numerals.{add-one}
-use native.Mathlib.Omega.{arith}
-use lib.Bits.{bitOr, or-zero-r}
-use lib.Dec.{ltb, leb}
-use lib.ListN.{length, getD, take, set}
-use lib.Seq.{getD-take, take-suc-set}
-use Rattle.document.specs.Routine.{Routine, size, wire, isRand, randsBefore, wellFormed, routineOf, recordsFit}
-use Rattle.document.specs.Padding.{operandsOf, operands}
-use Rattle.document.specs.Laws.Tests.{and-r, Mem}
-use Rattle.document.specs.Laws.Sound.{Sound, sound, first-leaf←, first-slots}
+-- The tables as the code makes them: the words of one wire from its record and the words of earlier wires.
+use mathlib.Core.Path.{_≡_}
+use mathlib.Core.List.{List}
+use Prim.Native.Nat.{ℕ, _<_}
+use lib.Bits.{bitOr}
+use lib.ListN.{getD, take}
+use Rattle.document.specs.Routine.{routineOf}
 use Rattle.document.specs.declared.Kind.{Kind}
 use Rattle.document.specs.declared.Kind.the-variants.{Share, Rand, Pub, Xor, And, Not}
 use Rattle.document.specs.declared.Wire.{Wire}
-use Rattle.records.specs.Records.{recordAt, countsOf}
-use Rattle.records.specs.Laws.{wire-is, rands-is}
-use Rattle.records.specs.Fit.{fit-of, a-within, b-within}
-use Rattle.cones.specs.Tables.{made, shareBit, randBit, gather, gather-ext, coneAt, shareCones, randCones, ownOf, ownAt, ownRands}
+use Rattle.document.specs.declared.Shape.{Shape}
+use Rattle.cones.specs.Tables.{shareCones, randCones, ownOf, ownRands}
 
 -- all bits of the operands' words x and y
 abbrev pub gatherOf : Kind → ℕ → ℕ → ℕ
@@ -44,127 +33,8 @@ pub record Inside (x : Wire) : Type 0 where
   pub a-in : x .a < 128
   pub b-in : x .b < 128
 
--- the words of the first n wires
-pub record TablesOf (s d n : ℕ) (ws : List Wire) (shares rands own : List ℕ) : Type 0 where
-  pub shares-are : take n shares ≡ shareCones (routineOf s d n ws) n
-  pub rands-are : take n rands ≡ randCones (routineOf s d n ws) n
-  pub own-are : take n own ≡ ownRands (routineOf s d n ws) n
-
--- ---- a routine that fits
-
-pub fit-sound : (s d n : ℕ) (ws : List Wire) → recordsFit s d n ws ≡ true → Sound (routineOf s d n ws)
-unfolding recordsFit
-fit-sound s d n ws e = sound (routineOf s d n ws) (and-r (leb n (length ws)) (wellFormed (routineOf s d n ws)) e)
-
-pub inside : (s d n : ℕ) (ws : List Wire) → recordsFit s d n ws ≡ true → (w : ℕ) → w < n → Inside (recordAt ws w)
-inside s d n ws e w h =
-    let f = fit-of s d n ws e in
-    let k = f .few in
-    let a = a-within f w h in
-    let b = b-within f w h in
-    record { a-in = omega arith; b-in = omega arith }
-
--- a random among the first n records has a place below 64
-pub place-below : (s d n : ℕ) (ws : List Wire) → recordsFit s d n ws ≡ true → (w : ℕ) → w < n → isRand (recordAt ws w .kind) ≡ true → countsOf w ws .rands < 64
-place-below s d n ws e w h i =
-    let f = fit-of s d n ws e in
-    let k = f .rands-few in
-    let r : isRand (wire (routineOf s d n ws) w .kind) ≡ true = ap (λ (x : Wire). isRand (x .kind)) (wire-is s d n ws w h) ∙ i in
-    let so = fit-sound s d n ws e in
-    let l = first-slots (routineOf s d n ws) (λ _. true) .low w (first-leaf← (routineOf s d n ws) (so .few) w r) in
-    let z = ap (randsBefore (routineOf s d n ws)) (f .sized) in
-    let p = rands-is s d n ws w (omega arith) in
-    let q = rands-is s d n ws n (omega arith) in
-    omega arith
-
--- ---- a wire more
-
-pub no-shares : (R : Routine) → [] ≡ shareCones R 0
-unfolding shareCones made
-no-shares R = refl
-
-pub no-rands : (R : Routine) → [] ≡ randCones R 0
-unfolding randCones made
-no-rands R = refl
-
-pub no-own : (R : Routine) → [] ≡ ownRands R 0
-unfolding ownRands made
-no-own R = refl
-
-made-more : (f : (ℕ → ℕ) → ℕ → ℕ) (w : ℕ) (words : List ℕ) (v : ℕ) → w < length words → take w words ≡ made f w
-    → v ≡ f (λ u. getD (made f w) u 0) w → take (w + 1) (set words w v) ≡ made f (w + 1)
-unfolding made
-made-more f w words v l e q = rw add-one (take-suc-set words w v l ∙ ap₂ {C = List ℕ} (λ xs y. xs ++ (y ∷ [])) e q)
-
--- the words so far are those of the earlier wires
-earlier-word : (f : (ℕ → ℕ) → ℕ → ℕ) (w : ℕ) (words : List ℕ) → take w words ≡ made f w → (v : ℕ) → v < w → getD words v 0 ≡ getD (made f w) v 0
-earlier-word f w words e v h = sym (getD-take w words v 0 h) ∙ ap (λ (l : List ℕ). getD l v 0) e
-
-gather-of : (k : Kind) (a b : ℕ) (e : ℕ → ℕ) → gatherOf k (e a) (e b) ≡ gather e (operandsOf k a b)
-unfolding gather operandsOf
-gather-of Share a b e = refl
-gather-of Rand a b e = refl
-gather-of Pub a b e = refl
-gather-of Xor a b e = ap (bitOr (e a)) (sym (or-zero-r (e b)))
-gather-of And a b e = ap (bitOr (e a)) (sym (or-zero-r (e b)))
-gather-of Not a b e = sym (or-zero-r (e a))
-
-own-same : (k : Kind) (a b bit : ℕ) (c c′ e e′ : ℕ → ℕ) → ((v : ℕ) → Mem v (operandsOf k a b) → c v ≡ c′ v) → ((v : ℕ) → Mem v (operandsOf k a b) → e v ≡ e′ v)
-    → ownOf k bit a b c e ≡ ownOf k bit a b c′ e′
-unfolding ownOf operandsOf
-own-same Share a b bit c c′ e e′ g h = refl
-own-same Rand a b bit c c′ e e′ g h = refl
-own-same Pub a b bit c c′ e e′ g h = refl
-own-same Xor a b bit c c′ e e′ g h = rw (g a (inl refl), g b (inr (inl refl)), h a (inl refl), h b (inr (inl refl))) refl
-own-same And a b bit c c′ e e′ g h = refl
-own-same Not a b bit c c′ e e′ g h = refl
-
-module _ (s d n : ℕ) (ws : List Wire) (fit : recordsFit s d n ws ≡ true) (w : ℕ) (in-n : w < n) where
-  abbrev R : Routine
-  R = routineOf s d n ws
-
-  cone-is : (bit : ℕ → ℕ) (words : List ℕ) → take w words ≡ made (coneAt R bit) w
-      → coneFrom (bit w) (recordAt ws w) words ≡ coneAt R bit (λ u. getD (made (coneAt R bit) w) u 0) w
-  unfolding coneAt operands
-  cone-is bit words e =
-      ap (λ (x : Wire). bitOr (bit w) (gatherOf (x .kind) (getD words (x .a) 0) (getD words (x .b) 0))) (sym (wire-is s d n ws w in-n))
-      ∙ ap (bitOr (bit w)) (gather-of (wire R w .kind) (wire R w .a) (wire R w .b) (λ v. getD words v 0)
-      ∙ gather-ext (λ v. getD words v 0) (λ v. getD (made (coneAt R bit) w) v 0) (operandsOf (wire R w .kind) (wire R w .a) (wire R w .b))
-      (λ v m. earlier-word (coneAt R bit) w words e v (fit-sound s d n ws fit .earlier w v m)))
-
-  -- the share cones with a wire more
-  pub share-turn : (words : List ℕ) (bit v : ℕ) → w < length words → take w words ≡ shareCones R w → bit ≡ shareBit R w → v ≡ coneFrom bit (recordAt ws w) words
-      → take (w + 1) (set words w v) ≡ shareCones R (w + 1)
-  unfolding shareCones
-  share-turn words bit v l e p q = made-more (coneAt R (shareBit R)) w words v l e (q ∙ ap (λ (b : ℕ). coneFrom b (recordAt ws w) words) p ∙ cone-is (shareBit R) words e)
-
-  pub share-bit : cond (ltb w (s * d)) (2 ^ w) 0 ≡ shareBit R w
-  unfolding shareBit
-  share-bit = refl
-
-  -- the random cones with a wire more
-  pub rand-turn : (words : List ℕ) (bit v : ℕ) → w < length words → take w words ≡ randCones R w → bit ≡ randBit R w → v ≡ coneFrom bit (recordAt ws w) words
-      → take (w + 1) (set words w v) ≡ randCones R (w + 1)
-  unfolding randCones
-  rand-turn words bit v l e p q = made-more (coneAt R (randBit R)) w words v l e (q ∙ ap (λ (b : ℕ). coneFrom b (recordAt ws w) words) p ∙ cone-is (randBit R) words e)
-
-  pub rand-bit : (j : ℕ) → j ≡ countsOf w ws .rands → cond (isRand (recordAt ws w .kind)) (2 ^ j) 0 ≡ randBit R w
-  unfolding randBit
-  rand-bit j e = rw (wire-is s d n ws w in-n, e, rands-is s d n ws w (omega arith)) refl
-
-  -- the own randoms with a wire more
-  pub own-turn : (cones words : List ℕ) (j v : ℕ) → w < length words → take n cones ≡ randCones R n → take w words ≡ ownRands R w → j ≡ countsOf w ws .rands
-      → v ≡ ownFrom (2 ^ j) (recordAt ws w) cones words → take (w + 1) (set words w v) ≡ ownRands R (w + 1)
-  unfolding ownRands ownAt operands
-  own-turn cones words j v l t e p q =
-      let so = fit-sound s d n ws fit in
-      let sized : size R ≡ n = fit-of s d n ws fit .sized in
-      let cone : ℕ → ℕ = λ v. getD (randCones R (size R)) v 0 in
-      let i : j ≡ randsBefore R w = p ∙ sym (rands-is s d n ws w (omega arith)) in
-      made-more (ownAt R cone) w words v l e
-      (q ∙ ap (λ (b : ℕ). ownOf (recordAt ws w .kind) (2 ^ b) (recordAt ws w .a) (recordAt ws w .b) (λ v. getD cones v 0) (λ v. getD words v 0)) i
-      ∙ ap (λ (x : Wire). ownOf (x .kind) (2 ^ randsBefore R w) (x .a) (x .b) (λ v. getD cones v 0) (λ v. getD words v 0)) (sym (wire-is s d n ws w in-n))
-      ∙ own-same (wire R w .kind) (wire R w .a) (wire R w .b) (2 ^ randsBefore R w) (λ v. getD cones v 0) cone (λ v. getD words v 0) (λ v. getD (made (ownAt R cone) w) v 0)
-      (λ v m. let h = so .earlier w v m in
-      sym (getD-take n cones v 0 (omega arith)) ∙ ap (λ (l : List ℕ). getD l v 0) t ∙ ap (λ (k : ℕ). getD (randCones R k) v 0) (sym sized))
-      (λ v m. earlier-word (ownAt R cone) w words e v (so .earlier w v m)))
+-- the words of the routine's wires
+pub record TablesOf (σ : Shape) (ws : List Wire) (shares rands own : List ℕ) : Type 0 where
+  pub shares-are : take (σ .n) shares ≡ shareCones (routineOf σ ws) (σ .n)
+  pub rands-are : take (σ .n) rands ≡ randCones (routineOf σ ws) (σ .n)
+  pub own-are : take (σ .n) own ≡ ownRands (routineOf σ ws) (σ .n)

@@ -1,14 +1,17 @@
 // What each wire is computed from, as words: shares, randoms, and randoms of its own.
 use document::Kind;
+use document::Listing;
+use document::Shape;
 use document::Wire;
 use records::Counts;
 ghost use mathlib.Core.Path.{_≡_};
 ghost use mathlib.Core.Bool.{true, cond};
-ghost use Prim.Native.Nat.{_*_, _^_, _≤_, _<_};
+ghost use Prim.Native.Nat.{_^_, _≤_, _<_};
 ghost use lib.Bits.{bitOr};
 ghost use lib.Dec.{eqb, ltb};
 ghost use lib.ListN.{getD, take};
-ghost use Rattle.document.specs.Routine.{isRand, routineOf, recordsFit};
+ghost use Rattle.document.specs.Routine.{isRand, recordsFit};
+ghost use Rattle.document.specs.Reading.{routineIn};
 ghost use Rattle.cones.specs.Bits.{minus};
 ghost use Rattle.cones.specs.Tables.{shareCones, randCones, ownRands};
 ghost use Rattle.cones.specs.Making.{gatherOf, coneFrom, ownFrom, Inside, TablesOf};
@@ -115,16 +118,17 @@ fn own_of(x: Wire, j: usize, cones: [u64; 128], own: [u64; 128]) -> u64
     }
 }
 
-// The shares in the cone of each of the first n wires.
-fn share_cones(s: usize, d: usize, n: usize, ws: [Wire; 128]) -> [u64; 128]
-    requires { ⌜ recordsFit s d n ws ≡ true ⌝ }
-    ensures { λ r. ⌜ take n r ≡ shareCones (routineOf s d n ws) n ⌝ }
+// The shares in the cone of each of the routine's wires.
+fn share_cones(listing: Listing) -> [u64; 128]
+    requires { ⌜ recordsFit (listing .shape) (listing .wires) ≡ true ⌝ }
+    ensures { λ r. ⌜ take (listing .shape .n) r ≡ shareCones (routineIn listing) (listing .shape .n) ⌝ }
 {
+    let Shape { s, d, n } = listing.shape;
     let shares = s * d;
     let mut words = [0u64; 128];
     let mut w = 0;
     while w < n {
-        let x = ws[w];
+        let x = listing.wires[w];
         let cone = cone_of(share_bit(shares, w), x, words);
         words[w] = cone;
         w += 1;
@@ -132,11 +136,12 @@ fn share_cones(s: usize, d: usize, n: usize, ws: [Wire; 128]) -> [u64; 128]
     words
 }
 
-// The randoms in the cone of each of the first n wires.
-fn rand_cones(s: usize, d: usize, n: usize, ws: [Wire; 128]) -> [u64; 128]
-    requires { ⌜ recordsFit s d n ws ≡ true ⌝ }
-    ensures { λ r. ⌜ take n r ≡ randCones (routineOf s d n ws) n ⌝ }
+// The randoms in the cone of each of the routine's wires.
+fn rand_cones(listing: Listing) -> [u64; 128]
+    requires { ⌜ recordsFit (listing .shape) (listing .wires) ≡ true ⌝ }
+    ensures { λ r. ⌜ take (listing .shape .n) r ≡ randCones (routineIn listing) (listing .shape .n) ⌝ }
 {
+    let n = listing.shape.n;
     let mut words = [0u64; 128];
     let mut counts = Counts {
         rands: 0,
@@ -145,7 +150,7 @@ fn rand_cones(s: usize, d: usize, n: usize, ws: [Wire; 128]) -> [u64; 128]
     };
     let mut w = 0;
     while w < n {
-        let x = ws[w];
+        let x = listing.wires[w];
         let k = x.kind;
         let cone = cone_of(rand_bit(k, counts.rands), x, words);
         words[w] = cone;
@@ -156,11 +161,13 @@ fn rand_cones(s: usize, d: usize, n: usize, ws: [Wire; 128]) -> [u64; 128]
     words
 }
 
-// The own randoms of each of the first n wires, given the randoms in their cones.
-fn own_rands(s: usize, d: usize, n: usize, ws: [Wire; 128], cones: [u64; 128]) -> [u64; 128]
-    requires { ⌜ (recordsFit s d n ws ≡ true) × (take n cones ≡ randCones (routineOf s d n ws) n) ⌝ }
-    ensures { λ r. ⌜ take n r ≡ ownRands (routineOf s d n ws) n ⌝ }
+// The own randoms of each of the routine's wires, given the randoms in their cones.
+fn own_rands(listing: Listing, cones: [u64; 128]) -> [u64; 128]
+    requires { ⌜ (recordsFit (listing .shape) (listing .wires) ≡ true)
+        × (take (listing .shape .n) cones ≡ randCones (routineIn listing) (listing .shape .n)) ⌝ }
+    ensures { λ r. ⌜ take (listing .shape .n) r ≡ ownRands (routineIn listing) (listing .shape .n) ⌝ }
 {
+    let n = listing.shape.n;
     let mut words = [0u64; 128];
     let mut counts = Counts {
         rands: 0,
@@ -169,7 +176,7 @@ fn own_rands(s: usize, d: usize, n: usize, ws: [Wire; 128], cones: [u64; 128]) -
     };
     let mut w = 0;
     while w < n {
-        let x = ws[w];
+        let x = listing.wires[w];
         let own = own_of(x, counts.rands, cones, words);
         words[w] = own;
         let next = records::count_record(counts, x);
@@ -180,12 +187,12 @@ fn own_rands(s: usize, d: usize, n: usize, ws: [Wire; 128], cones: [u64; 128]) -
 }
 
 // The tables of a routine that fits.
-pub fn tables_of(s: usize, d: usize, n: usize, ws: [Wire; 128]) -> Tables
-    requires { ⌜ recordsFit s d n ws ≡ true ⌝ }
-    ensures { λ r. ⌜ TablesOf s d n ws (r .shares) (r .rands) (r .own) ⌝ }
+pub fn tables_of(listing: Listing) -> Tables
+    requires { ⌜ recordsFit (listing .shape) (listing .wires) ≡ true ⌝ }
+    ensures { λ r. ⌜ TablesOf (listing .shape) (listing .wires) (r .shares) (r .rands) (r .own) ⌝ }
 {
-    let shares = share_cones(s, d, n, ws);
-    let rands = rand_cones(s, d, n, ws);
-    let own = own_rands(s, d, n, ws, rands);
+    let shares = share_cones(listing);
+    let rands = rand_cones(listing);
+    let own = own_rands(listing, rands);
     Tables { shares, rands, own }
 }

@@ -1,5 +1,4 @@
 -- The first records of a lent list, as an array by value holds them.
-use mathlib.Core.Path.{_≡_, refl}
 use mathlib.Core.Bool.{_&&_, cond}
 use mathlib.Core.List.{List, _++_}
 use Prim.Native.Nat.{ℕ}
@@ -7,10 +6,8 @@ use lib.Dec.{leb}
 use lib.ListN.{length, take, drop}
 use Rattle.document.specs.Reading.{blanks}
 use Rattle.document.specs.declared.Wire.{Wire}
-
-pub length-blanks : length blanks ≡ 128
-unfolding blanks
-length-blanks = refl
+use Rattle.document.specs.declared.Shape.{Shape}
+use Rattle.document.specs.declared.Listing.{Listing}
 
 -- the first k records, and blanks behind them
 abbrev pub fetched : ℕ → List Wire → List Wire
@@ -23,3 +20,7 @@ clipped len n = cond (leb n len && leb n 128) n 0
 -- the first n records, or only blanks where there are not so many
 unfoldable pub firstOf : ℕ → List Wire → List Wire
 firstOf n list = fetched (clipped (length list) n) list
+
+-- the routine of the shape and the list by value
+abbrev pub listingOf : Shape → List Wire → Listing
+listingOf σ list = record { shape = σ; wires = firstOf (σ .n) list }

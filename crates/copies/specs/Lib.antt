@@ -1,2 +1,3 @@
--- What an array by value holds of a lent list.
+-- The first records of a lent list, and their laws.
 pub mod First
+pub mod Laws

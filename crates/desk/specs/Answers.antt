@@ -1,5 +1,4 @@
 -- What the desk program prints of its input.
-use mathlib.Core.Path.{refl}
 use mathlib.Core.List.{List, []}
 use Prim.Native.Nat.{ℕ}
 use lib.ListN.{take}
@@ -14,13 +13,5 @@ deskAnswers (Whole n) bytes = deskPrints (take n bytes)
 deskAnswers Failed bytes = []
 
 -- the buffer holds what is printed of the input whose bytes are these, r bytes
-abbrev pub Answered : Input → List ℕ → List ℕ → ℕ → List ℕ → Type 0
-Answered input bytes buffer r after = Begins (deskAnswers input bytes) buffer r after
-
-pub whole-answered : (n : ℕ) (bytes : List ℕ) {buffer : List ℕ} {r : ℕ} {after : List ℕ} → Begins (deskPrints (take n bytes)) buffer r after → Answered (Whole n) bytes buffer r after
-unfolding deskAnswers
-whole-answered n bytes p = p
-
-pub failed-answered : (bytes buffer : List ℕ) → Answered Failed bytes buffer 0 buffer
-unfolding deskAnswers
-failed-answered bytes buffer = record { said = refl; left = refl }
+abbrev pub DeskAnswered : Input → List ℕ → List ℕ → ℕ → List ℕ → Type 0
+DeskAnswered input bytes buffer r after = Begins (deskAnswers input bytes) buffer r after

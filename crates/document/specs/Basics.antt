@@ -47,20 +47,25 @@ unfoldable pub keep : {A : Type 0} → (A → Bool) → List A → List A
 keep f [] = []
 keep f (x ∷ xs) = cond (f x) (x ∷ keep f xs) (keep f xs)
 
--- the numbers below m, ascending from lo
+-- m numbers, each one above the one before it, from lo on
 unfoldable pub upTo : ℕ → ℕ → List ℕ
 upTo zero lo = []
 upTo (suc m) lo = lo ∷ upTo m (suc lo)
 
--- a mark for each wire
+-- 3.1, 3.2: marks of one sort, one to a wire number
 abbrev pub Marks : Type 0
 Marks = List Bool
 
--- wire w is marked
+-- 3.1: wire w has the mark
 abbrev pub at : Marks → ℕ → Bool
 at m w = getD m w false
 
--- each wire of the list marked
+-- 3.1: each wire of the list gets the mark
 unfoldable pub mark : List ℕ → Marks → Marks
 mark [] m = m
 mark (w ∷ ws) m = mark ws (set m w true)
+
+-- the words above, to unfold at once where a proof computes
+unfoldable pub whole-basics : Unit {0}
+unfolding tally all some each elem same keep upTo mark
+whole-basics = tt

@@ -1,13 +1,15 @@
--- The judgements (01, "The judgements"), the two calls on one set, and what each answers (01, "Numbers of the refusals").
+-- The judgements, the two calls on one set, and what each answers (sections 5 and 7 of docs/SPECIFICATION.md).
+use mathlib.Core.Path.{_≡_}
 use mathlib.Core.Bool.{Bool, true, false, not, _&&_, cond}
+use mathlib.Core.Logic.{_⊎_}
 use mathlib.Core.List.{List, [], _∷_, _++_, map}
-use Prim.Native.Nat.{ℕ, zero, suc, _+_, _-_}
+use Prim.Native.Nat.{ℕ, zero, suc, _+_, _-_, _<_}
 use lib.Dec.{ltb, leb}
 use lib.ListN.{length, take, replicate}
 use Rattle.document.specs.Basics.{some, each, keep}
 use Rattle.document.specs.Routine.{Routine, size, wire, wellFormed}
-use Rattle.document.specs.ProbeSets.{held, ascending, emptySet, setOf}
-use Rattle.document.specs.Padding.{steps, neededShares, neededOf}
+use Rattle.document.specs.ProbeSets.{held, ascending, emptySet, setOf, whole-sets}
+use Rattle.document.specs.Padding.{steps, neededShares, neededOf, whole-rule}
 use Rattle.document.specs.declared.Refusal.{Refusal}
 use Rattle.document.specs.declared.Refusal.the-variants as No
 use Rattle.document.specs.declared.Outcome.the-variants.{Done, Refused}
@@ -18,101 +20,151 @@ use Rattle.document.specs.declared.Step.{Step}
 use Rattle.document.specs.declared.Needed.{Needed}
 use Rattle.document.specs.declared.Padded.{Padded}
 use Rattle.document.specs.declared.Judged.{Judged}
+use Rattle.document.specs.declared.Which.{Which}
+use Rattle.document.specs.declared.Which.the-variants as Ask
 
--- a judgement: at order t the sets of 1 to `largest t` wires are judged; a set has `observes` taken for probed, and is open when some secret
--- has more needed shares than `bound`
+-- 5.1: up to what size sets are judged at order t, what of a set is taken as probed, and how many shares a secret may need
 pub record Judgement : Type 0 where
   pub largest : ℕ → ℕ
   pub observes : Routine → List ℕ → List ℕ
   pub bound : Routine → ℕ → List ℕ → ℕ
 
--- "Plain, order t: a set of 1 to t wires is open when some secret has more than t needed shares."
+-- 5.3: plain, sets of 1 to t wires, and the bound is t for each
 abbrev pub plain : Judgement
 plain = record { largest = λ t. t; observes = λ R ps. ps; bound = λ R t ps. t }
 
--- "let i be the probed wires that are no outputs"
+-- 5.4: i, how many wires of the set have no output mark
 unfoldable pub inner : Routine → List ℕ → ℕ
 inner R ps = length (keep (λ w. not (wire R w .out)) ps)
 
--- "Strong, order t: .. Non-empty sets with i + o below t are judged ..; a set is open when some secret has more than i needed shares."
+-- 5.4 to 5.6: strong, sets of 1 to t − 1 wires, and the bound is i
 abbrev pub strong : Judgement
 strong = record { largest = λ t. t - 1; observes = λ R ps. ps; bound = λ R t ps. inner R ps }
 
--- the set is open
+-- 5.1: the judgement that is asked for
+abbrev pub judgementOf : Which → Judgement
+judgementOf Ask.Plain = plain
+judgementOf Ask.Strong = strong
+
+-- 5.2: a set is open when the rule leaves some secret needing more shares than the bound
 unfoldable pub isOpen : Judgement → Routine → ℕ → List ℕ → Bool
 isOpen J R t ps = some (R .S) (λ i. ltb (J .bound R t ps) (neededOf R (J .observes R ps) i))
 
--- the sets of k of the m wires from lo on, "by lowest wire, next wire and so on"
+-- 5.9, 5.10: the sets of k of the m wires from lo on, those with the lower wire at the first difference first
 unfoldable pub setsOf : ℕ → ℕ → ℕ → List (List ℕ)
 setsOf zero m lo = [] ∷ []
 setsOf (suc k) zero lo = []
 setsOf (suc k) (suc m) lo = map (λ ps. lo ∷ ps) (setsOf k m (suc lo)) ++ setsOf (suc k) m (suc lo)
 
--- "Sets come by size, smallest first": those of 1 to k of m wires
+-- 5.9: the sets of 1 to k of m wires, a smaller set before a larger one
 unfoldable pub setsInOrder : ℕ → ℕ → List (List ℕ)
 setsInOrder zero m = []
 setsInOrder (suc k) m = setsInOrder k m ++ setsOf (suc k) m 0
 
--- the sets of a judgement
+-- 5.8: the sets of a judgement, drawn from all n wires
 unfoldable pub setsJudged : Judgement → Routine → ℕ → List (List ℕ)
 setsJudged J R t = setsInOrder (J .largest t) (size R)
 
--- "beside the set (empty unless open)"
+-- 5.14, 5.15: a pass has its count and the empty set
 abbrev pub passed : ℕ → Judged
 passed k = record { verdict = Says.Pass k; set = emptySet }
 
+-- 5.14, 5.15: an open verdict has its count and the open set
 abbrev pub opened : ℕ → List ℕ → Judged
 opened k ps = record { verdict = Says.Open k; set = setOf ps }
 
--- "The judgement stops at the first open set. The count is the sets judged, the open one included."
+-- 5.12, 5.13: sets are judged up to the first open one, and every set that was judged counts
 unfoldable pub firstOpen : (List ℕ → Bool) → ℕ → List (List ℕ) → Judged
 firstOpen opens k [] = passed k
 firstOpen opens k (ps ∷ later) = cond (opens ps) (opened (suc k) ps) (firstOpen opens (suc k) later)
 
+-- 5.12 to 5.15: the answer of a judgement at an order that is allowed
 unfoldable pub judgement : Judgement → Routine → ℕ → Judged
 judgement J R t = firstOpen (isOpen J R t) 0 (setsJudged J R t)
 
--- 12: "order not 1 to 4, or not below D"
+-- 5.7, 7.12: the order is 1 to 4 and smaller than D
 unfoldable pub orderFits : Routine → ℕ → Bool
 orderFits R t = leb 1 t && leb t 4 && ltb t (R .D)
 
--- 13: "probe set empty, larger than the order, not ascending, or naming no wire"
+-- 5.24, 7.13: the set has 1 to t wires, is ascending, and holds numbers below n only
 unfoldable pub probesFit : Routine → ℕ → ProbeSet → Bool
 probesFit R t s = ltb 0 (s .len) && leb (s .len) t && ascending (held s) && each (λ w. ltb w (size R)) (held s)
 
--- "A refusal gives 0 for .. counts, an empty set"
+-- 7.25: a refused judgement has no count and the empty set
 abbrev pub judgedNot : Refusal → Judged
 judgedNot f = record { verdict = Says.Refused f; set = emptySet }
 
--- "Judging tests 11, 12": the whole answer of a judgement
+-- 7.21: the whole answer of a judgement, after the tests 11 and 12
 unfoldable pub judged : Judgement → Routine → ℕ → Judged
 judged J R t = cond (wellFormed R) (cond (orderFits R t) (judgement J R t) (judgedNot No.Order)) (judgedNot No.Records)
 
--- "Judging tests 11, 12, and for one set 13"
+-- 7.22: the tests of a call on one set, 11, then 12, then 13
 unfoldable pub setRefusal : {A : Type 0} → Routine → ℕ → ProbeSet → (Refusal → A) → A → A
 setRefusal R t s refuse answer =
     cond (wellFormed R) (cond (orderFits R t) (cond (probesFit R t s) answer (refuse No.Probes)) (refuse No.Order)) (refuse No.Records)
 
--- "A refusal gives .. no needed shares .. and not open"
+-- 7.26: refused, the word is 0 and the flag is false
 abbrev pub neededNot : Refusal → Needed
 neededNot f = record { outcome = Refused f; shares = 0; undecided = false }
 
--- "one gives the needed shares of a set"; "Both also say whether the set is plain-open at the given order."
+-- 5.22, 5.23: the word of needed shares, and whether the set is open by the plain judgement
 unfoldable pub needing : Routine → ℕ → ProbeSet → Needed
 needing R t s = setRefusal R t s neededNot (record { outcome = Done; shares = neededShares R (held s); undecided = isOpen plain R t (held s) })
 
--- "unused ones 0, 0"
+-- 5.25: the pair that stands behind the length
 abbrev pub noStep : Step
 noStep = record { w = 0; r = 0 }
 
--- "A refusal gives 0 for .. lengths .., no steps and not open"
+-- 7.26: refused, the length is 0, all pairs are (0, 0) and the flag is false
 abbrev pub paddedNot : Refusal → Padded
 paddedNot f = record { outcome = Refused f; steps = replicate 128 noStep; len = 0; undecided = false }
 
--- "handed back by value with its length, room for 128 pairs"
+-- 5.25: the steps as an array of 128 pairs and a length
 unfoldable pub stepList : List Step → Bool → Padded
 stepList ss opens = record { outcome = Done; steps = take 128 (ss ++ replicate 128 noStep); len = length ss; undecided = opens }
 
--- "one gives the list of steps"; "for one set 13, then 16": "list of steps full"
+-- 5.22, 5.23, 7.16, 7.22: the steps and the same flag; 16 where there are more than 128 steps
 unfoldable pub padding : Routine → ℕ → ProbeSet → Padded
-padding R t s = setRefusal R t s paddedNot (cond (leb (length (steps R (held s))) 128) (stepList (steps R (held s)) (isOpen plain R t (held s))) (paddedNot No.Steps))
+padding R t s =
+    setRefusal R t s paddedNot
+    (cond (leb (length (steps R (held s))) 128) (stepList (steps R (held s)) (isOpen plain R t (held s))) (paddedNot No.Steps))
+
+-- the definitions above, to unfold at once where a proof computes
+unfoldable pub whole-judgements : Unit {0}
+unfolding whole-rule whole-sets inner isOpen setsOf setsInOrder setsJudged firstOpen judgement orderFits probesFit judged setRefusal needing stepList padding
+whole-judgements = tt
+
+-- ---- words of the statements
+
+-- 5.17: the set stands in the list
+abbrev pub Among : List ℕ → List (List ℕ) → Type 0
+Among s [] = ⊥
+Among s (x ∷ xs) = (s ≡ x) ⊎ Among s xs
+
+-- 5.9: at the first place where they differ, the first set is lower
+abbrev pub Lower : List ℕ → List ℕ → Type 0
+Lower [] qs = ⊥
+Lower (p ∷ ps) [] = ⊥
+Lower (p ∷ ps) (q ∷ qs) = (p < q) ⊎ ((p ≡ q) × Lower ps qs)
+
+-- 5.9: a smaller set comes before a larger one; of two sets of one size, the lower one
+abbrev pub Before : List ℕ → List ℕ → Type 0
+Before ps qs = (length ps < length qs) ⊎ ((length ps ≡ length qs) × Lower ps qs)
+
+-- 5.9, 5.11: each set comes before all that follow it; so no set is there twice
+abbrev pub Ordered : List (List ℕ) → Type 0
+Ordered [] = Unit {0}
+Ordered (x ∷ xs) = ((y : List ℕ) → Among y xs → Before x y) × Ordered xs
+
+-- 5.17: no set of the list is open
+abbrev pub NoneOpen : (List ℕ → Bool) → List (List ℕ) → Type 0
+NoneOpen opens ss = (ps : List ℕ) → Among ps ss → opens ps ≡ false
+
+-- 5.18: ps is the first open set of the list, and k its place, counted from 1
+pub record FirstOpen (opens : List ℕ → Bool) (ss : List (List ℕ)) (ps : List ℕ) (k : ℕ) : Type 0 where
+  pub before : List (List ℕ)
+  pub after : List (List ℕ)
+  pub splits : ss ≡ before ++ ps ∷ after
+  pub closed : NoneOpen opens before
+  pub here : opens ps ≡ true
+  pub place : k ≡ length before + 1

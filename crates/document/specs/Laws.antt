@@ -18,3 +18,4 @@ pub mod Judging
 pub mod Observing
 pub mod Orders
 pub mod Secrecy
+pub mod Answers

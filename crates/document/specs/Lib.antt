@@ -1,4 +1,4 @@
--- The definitions, a file for a section of the document and in its order; the laws about them; and what is proved of them.
+-- The definitions, a file or two for a section of docs/SPECIFICATION.md; the laws about them; and what is proved of them.
 pub mod Basics
 pub mod Refusals
 pub mod Routine
@@ -7,6 +7,7 @@ pub mod Reading
 pub mod Writing
 pub mod Running
 pub mod ProbeSets
+pub mod Placing
 pub mod Padding
 pub mod Judgements
 pub mod Starts

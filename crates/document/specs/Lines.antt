@@ -1,15 +1,32 @@
--- The lines of a routine text by their form (01, "Routine text"): fields, numbers, words.
+-- The lines of a routine text by their form (section 1 of docs/SPECIFICATION.md): fields, numbers, words.
 use mathlib.Core.Bool.{Bool, true, false, _&&_, cond}
 use mathlib.Core.List.{List, [], _∷_, _++_, map}
 use Prim.Native.Nat.{ℕ, _+_, _*_, _-_, _/_, _%_}
 use lib.Dec.{eqb, ltb, leb}
-use Rattle.document.specs.Basics.{same}
+use Rattle.document.specs.Basics.{same, whole-basics}
 use Rattle.document.specs.declared.Number.{Number}
 use Rattle.document.specs.declared.Number.the-variants.{Bad, Is}
 use Rattle.document.specs.declared.Word.{Word}
 use Rattle.document.specs.declared.Word.the-variants.{Other, Routine, Rand, Pub, Xor, And, Not, Out}
 use Rattle.document.specs.declared.Line.{Line}
 use Rattle.document.specs.declared.Line.the-variants as L
+
+-- ---- 1.3: bytes by name: what parts fields, what closes a line, and the digits
+
+abbrev pub tab : ℕ
+tab = 9
+
+abbrev pub lf : ℕ
+lf = 10
+
+abbrev pub digitZero : ℕ
+digitZero = 48
+
+abbrev pub digitOne : ℕ
+digitOne = 49
+
+abbrev pub digitNine : ℕ
+digitNine = 57
 
 -- ---- parts of a list of bytes
 
@@ -18,18 +35,18 @@ unfoldable pub front : ℕ → List (List ℕ) → List (List ℕ)
 front x [] = []
 front x (p ∷ ps) = (x ∷ p) ∷ ps
 
--- the parts between the separators: one more than there are separators
+-- 1.5: the parts between the separators, one more than there are separators
 unfoldable pub cut : ℕ → List ℕ → List (List ℕ)
 cut s [] = [] ∷ []
 cut s (x ∷ xs) = cond (eqb x s) ([] ∷ cut s xs) (front x (cut s xs))
 
--- the parts but the last
+-- 1.4: the parts but the last, which no separator closes
 unfoldable pub heads : List (List ℕ) → List (List ℕ)
 heads [] = []
 heads (p ∷ []) = []
 heads (p ∷ q ∷ ps) = p ∷ heads (q ∷ ps)
 
--- the parts with the separator between each two
+-- 1.48: the parts with the separator between each two
 unfoldable pub join : ℕ → List (List ℕ) → List ℕ
 join s [] = []
 join s (p ∷ []) = p
@@ -37,31 +54,31 @@ join s (p ∷ q ∷ ps) = p ++ s ∷ join s (q ∷ ps)
 
 -- ---- numbers
 
--- 0 to 9; 1 to 9
+-- 1.6: 0 to 9, and what a longer number begins with, 1 to 9
 abbrev pub digit : ℕ → Bool
-digit c = leb 48 c && leb c 57
+digit c = leb digitZero c && leb c digitNine
 
 abbrev pub lead : ℕ → Bool
-lead c = leb 49 c && leb c 57
+lead c = leb digitOne c && leb c digitNine
 
--- "Numbers are decimal, one to three digits, no leading zero except 0 itself."
+-- 1.6, 1.7: one, two or three digits in base ten, with 0 in front only where it stands alone
 unfoldable pub number : List ℕ → Number
 number [] = Bad
-number (a ∷ []) = cond (digit a) (Is (a - 48)) Bad
-number (a ∷ b ∷ []) = cond (lead a && digit b) (Is ((a - 48) * 10 + (b - 48))) Bad
-number (a ∷ b ∷ c ∷ []) = cond (lead a && digit b && digit c) (Is ((a - 48) * 100 + (b - 48) * 10 + (c - 48))) Bad
+number (a ∷ []) = cond (digit a) (Is (a - digitZero)) Bad
+number (a ∷ b ∷ []) = cond (lead a && digit b) (Is ((a - digitZero) * 10 + (b - digitZero))) Bad
+number (a ∷ b ∷ c ∷ []) = cond (lead a && digit b && digit c) (Is ((a - digitZero) * 100 + (b - digitZero) * 10 + (c - digitZero))) Bad
 number (a ∷ b ∷ c ∷ d ∷ ds) = Bad
 
--- a number below 1,000 as it is written
+-- 1.48: a number below 1,000 as it is written
 unfoldable pub decimal : ℕ → List ℕ
 decimal n =
-    cond (ltb n 10) ((48 + n) ∷ [])
-    (cond (ltb n 100) ((48 + n / 10) ∷ (48 + n % 10) ∷ [])
-    ((48 + n / 100) ∷ (48 + n / 10 % 10) ∷ (48 + n % 10) ∷ []))
+    cond (ltb n 10) ((digitZero + n) ∷ [])
+    (cond (ltb n 100) ((digitZero + n / 10) ∷ (digitZero + n % 10) ∷ [])
+    ((digitZero + n / 100) ∷ (digitZero + n / 10 % 10) ∷ (digitZero + n % 10) ∷ []))
 
 -- ---- words
 
--- the bytes of `routine`, `rand`, `pub`, `xor`, `and`, `not`, `out`
+-- 1.8: the bytes of `routine`, `rand`, `pub`, `xor`, `and`, `not`, `out`
 abbrev pub spelled : Word → List ℕ
 spelled Other = []
 spelled Routine = 114 ∷ 111 ∷ 117 ∷ 116 ∷ 105 ∷ 110 ∷ 101 ∷ []
@@ -72,6 +89,7 @@ spelled And = 97 ∷ 110 ∷ 100 ∷ []
 spelled Not = 110 ∷ 111 ∷ 116 ∷ []
 spelled Out = 111 ∷ 117 ∷ 116 ∷ []
 
+-- 1.8: the word that these bytes are
 unfoldable pub wordOf : List ℕ → Word
 wordOf f =
     cond (same f (spelled Rand)) Rand
@@ -84,7 +102,7 @@ wordOf f =
 
 -- ---- lines
 
--- "`rand w`, `pub w`", "`out w`"
+-- 1.9: the words with one number
 abbrev pub with1 : Word → ℕ → Line
 with1 Other w = L.Bad
 with1 Routine w = L.Bad
@@ -95,7 +113,7 @@ with1 And w = L.Bad
 with1 Not w = L.Bad
 with1 Out w = L.Out w
 
--- "`routine S D`", "`not w a`"
+-- 1.9: the words with two
 abbrev pub with2 : Word → ℕ → ℕ → Line
 with2 Other w a = L.Bad
 with2 Routine w a = L.Head w a
@@ -106,7 +124,7 @@ with2 And w a = L.Bad
 with2 Not w a = L.Not w a
 with2 Out w a = L.Bad
 
--- "`xor w a b`, `and w a b`"
+-- 1.9: the words with three
 abbrev pub with3 : Word → ℕ → ℕ → ℕ → Line
 with3 Other w a b = L.Bad
 with3 Routine w a b = L.Bad
@@ -117,6 +135,7 @@ with3 And w a b = L.And w a b
 with3 Not w a b = L.Bad
 with3 Out w a b = L.Bad
 
+-- 1.10: a field that should be a number and is none makes the line malformed
 abbrev pub of1 : Word → Number → Line
 of1 k Bad = L.Bad
 of1 k (Is w) = with1 k w
@@ -132,6 +151,7 @@ of3 k (Is w) Bad b = L.Bad
 of3 k (Is w) (Is a) Bad = L.Bad
 of3 k (Is w) (Is a) (Is b) = with3 k w a b
 
+-- 1.9, 1.10: the line of these fields
 unfoldable pub ofFields : List (List ℕ) → Line
 ofFields [] = L.Bad
 ofFields (w ∷ []) = L.Bad
@@ -140,15 +160,15 @@ ofFields (w ∷ a ∷ b ∷ []) = of2 (wordOf w) (number a) (number b)
 ofFields (w ∷ a ∷ b ∷ c ∷ []) = of3 (wordOf w) (number a) (number b) (number c)
 ofFields (w ∷ a ∷ b ∷ c ∷ d ∷ ds) = L.Bad
 
--- "fields are parted by one tab": the line that these bytes, without the LF, make
+-- 1.5: the line that these bytes make, cut at every tab
 abbrev pub lineOf : List ℕ → Line
-lineOf bytes = ofFields (cut 9 bytes)
+lineOf bytes = ofFields (cut tab bytes)
 
--- "Lines end in LF": what stands behind the last LF is no line
+-- 1.4: the lines that an LF closes
 abbrev pub linesIn : List ℕ → List Line
-linesIn text = map lineOf (heads (cut 10 text))
+linesIn text = map lineOf (heads (cut lf text))
 
--- the fields of a line as they are written
+-- 1.48: the fields of a line as they are written
 abbrev pub fieldsOf : Line → List (List ℕ)
 fieldsOf L.Bad = []
 fieldsOf (L.Head s d) = spelled Routine ∷ decimal s ∷ decimal d ∷ []
@@ -160,9 +180,14 @@ fieldsOf (L.Not w a) = spelled Not ∷ decimal w ∷ decimal a ∷ []
 fieldsOf (L.Out w) = spelled Out ∷ decimal w ∷ []
 
 abbrev pub lineText : Line → List ℕ
-lineText l = join 9 (fieldsOf l)
+lineText l = join tab (fieldsOf l)
 
--- each line with the LF that ends it
+-- 1.48: each line with the LF that closes it
 unfoldable pub textOfLines : List Line → List ℕ
 textOfLines [] = []
-textOfLines (l ∷ ls) = lineText l ++ 10 ∷ textOfLines ls
+textOfLines (l ∷ ls) = lineText l ++ lf ∷ textOfLines ls
+
+-- the definitions above, to unfold at once where a proof computes
+unfoldable pub whole-lines : Unit {0}
+unfolding whole-basics front cut heads join number decimal wordOf ofFields textOfLines
+whole-lines = tt

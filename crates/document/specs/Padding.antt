@@ -1,58 +1,47 @@
--- The padding rule (01, "The padding rule"), sentence by sentence.
+-- The padding rule (section 3 of docs/SPECIFICATION.md).
+use mathlib.Core.Path.{_≡_}
 use mathlib.Core.Bool.{Bool, true, false, not, _&&_, _||_, cond}
 use mathlib.Core.List.{List, [], _∷_, map}
 use mathlib.Core.Option.{Option, none, some}
 use Prim.Native.Nat.{ℕ, zero, suc, _+_, _*_, _/_, _%_, _^_, min, max}
-use lib.Count.{ones}
+use lib.Count.{ones, onesIn}
 use lib.Dec.{eqb}
 use lib.ListN.{set, replicate}
 use Rattle.document.specs.Basics.{one, all, elem, Marks, at, mark}
-use Rattle.document.specs.Routine.{Routine, size, wire, isRand}
+use Rattle.document.specs.Routine.{Routine, size, wire, isRand, operands, whole-routine}
 use Rattle.document.specs.declared.Kind.{Kind}
 use Rattle.document.specs.declared.Kind.the-variants.{Share, Rand, Pub, Xor, And, Not}
 use Rattle.document.specs.declared.Wire.{Wire}
 use Rattle.document.specs.declared.Step.{Step}
 
--- "The working state has one mark for each of the 128 wires."
+-- 3.2: 128 marks, none of them set
 abbrev pub unmarked : Marks
 unmarked = replicate 128 false
 
--- the probed wires marked
+-- 3.1: the wires of the list marked as probed
 unfoldable pub probed : List ℕ → Marks
 probed ps = mark ps unmarked
 
--- "Shares, randoms and publics have no operands in this rule."
-unfoldable pub operandsOf : Kind → ℕ → ℕ → List ℕ
-operandsOf Share a b = []
-operandsOf Rand a b = []
-operandsOf Pub a b = []
-operandsOf Xor a b = a ∷ b ∷ []
-operandsOf And a b = a ∷ b ∷ []
-operandsOf Not a b = a ∷ []
-
--- the operands of wire w
-unfoldable pub operands : Routine → ℕ → List ℕ
-operands R w = operandsOf (wire R w .kind) (wire R w .a) (wire R w .b)
-
--- the wires from lo on, m of them, that are randoms
+-- 3.4: the randoms among the m wires from lo on
 unfoldable pub randsFrom : Routine → ℕ → ℕ → List ℕ
 randsFrom R zero lo = []
 randsFrom R (suc m) lo = cond (isRand (wire R lo .kind)) (lo ∷ randsFrom R m (suc lo)) (randsFrom R m (suc lo))
 
--- "Begin with every random wire as a leaf."
+-- 3.4: at the outset the leaves are all the randoms and nothing else
 unfoldable pub firstLeaves : Routine → Marks
 firstLeaves R = mark (randsFrom R (size R) 0) unmarked
 
--- "A wire is live if it is probed, or is an operand of a live wire that is not a leaf."
--- Operands are earlier wires, so going down from the last wire meets each wire after all its consumers.
+-- 3.5 to 3.7: from wire u − 1 down to 0, each wire that is live and no leaf makes its operands live;
+-- operands being earlier wires, a wire is met after all that have it as an operand
 unfoldable pub liveDown : Routine → Marks → ℕ → Marks → Marks
 liveDown R leaf zero m = m
 liveDown R leaf (suc u) m = liveDown R leaf u (cond (at m u && not (at leaf u)) (mark (operands R u) m) m)
 
+-- 3.5, 3.7: the live wires, from the probed ones by one pass over all n
 unfoldable pub live : Routine → Marks → Marks → Marks
 live R probe leaf = liveDown R leaf (size R) probe
 
--- "is an `xor` ..; its two operands differ; one operand r": the operands that a wire can be padded by, "r is the lower operand if both serve"
+-- 3.10, 3.13, 3.17: only an `xor` of two different wires has operands that it can be padded by; the smaller one comes first
 unfoldable pub padsOf : Kind → ℕ → ℕ → List ℕ
 padsOf Share a b = []
 padsOf Rand a b = []
@@ -61,84 +50,108 @@ padsOf Xor a b = cond (eqb a b) [] (min a b ∷ max a b ∷ [])
 padsOf And a b = []
 padsOf Not a b = []
 
+-- 3.10: what wire w can be padded by, as far as its record goes
 unfoldable pub pads : Routine → ℕ → List ℕ
 pads R w = padsOf (wire R w .kind) (wire R w .a) (wire R w .b)
 
--- u is a "live consumer" of r "that is not a leaf"
+-- 3.8: u consumes r when it is live, is no leaf, and has r as an operand
 unfoldable pub consumes : Routine → Marks → Marks → ℕ → ℕ → Bool
 consumes R leaf alive r u = at alive u && not (at leaf u) && elem r (operands R u)
 
--- r "has w as its only live consumer that is not a leaf"
+-- 3.11: no wire but w consumes r
 unfoldable pub onlyConsumer : Routine → Marks → Marks → ℕ → ℕ → Bool
 onlyConsumer R leaf alive w r = all (size R) (λ u. eqb u w || not (consumes R leaf alive r u))
 
--- "one operand r is a leaf, is not probed, and has w as its only live consumer that is not a leaf"
+-- 3.11: r is a leaf, is not probed, and no wire but w consumes it
 unfoldable pub serves : Routine → Marks → Marks → Marks → ℕ → ℕ → Bool
 serves R probe leaf alive w r = at leaf r && not (at probe r) && onlyConsumer R leaf alive w r
 
--- "A wire w can be padded when all of these hold: w is live, is an `xor` and is no leaf; its two operands differ; one operand r .."
+-- 3.9 to 3.12: w can be padded by r, where the live wires are given
 unfoldable pub padsBy : Routine → Marks → Marks → Marks → ℕ → ℕ → Bool
 padsBy R probe leaf alive w r = at alive w && not (at leaf w) && elem r (pads R w) && serves R probe leaf alive w r
 
+-- 3.9: w can be padded by r
 unfoldable pub canPad : Routine → Marks → Marks → ℕ → ℕ → Bool
 canPad R probe leaf w r = padsBy R probe leaf (live R probe leaf) w r
 
--- the first of the operands that serves, or else what the wires after w have
+-- 3.17: a step of w with the first of these operands that will do, or else what the later wires have
 unfoldable pub firstPad : (ℕ → Bool) → ℕ → List ℕ → Option Step → Option Step
 firstPad ok w [] later = later
 firstPad ok w (r ∷ rs) later = cond (ok r) (some (record { w = w; r = r })) (firstPad ok w rs later)
 
--- "always with the lowest such w", from the given one on, m wires
+-- 3.16: the step of the lowest wire that has one, among m wires from w on
 unfoldable pub lowestPad : Routine → (ℕ → ℕ → Bool) → ℕ → ℕ → Option Step
 lowestPad R ok zero w = none
 lowestPad R ok (suc m) w = firstPad (ok w) w (pads R w) (lowestPad R ok m (suc w))
 
+-- 3.16, 3.18: the next step, looked for from wire 0 on
 unfoldable pub nextStep : Routine → Marks → Marks → Option Step
 nextStep R probe leaf = lowestPad R (padsBy R probe leaf (live R probe leaf)) (size R) 0
 
--- "The step makes w a leaf."
+-- 3.14, 3.15: a step makes w a leaf, like any other
 abbrev pub stepped : Marks → ℕ → Marks
 stepped leaf w = set leaf w true
 
--- "The steps go on until no wire can be padded"; "Each step is noted as the pair w, r."
--- No run takes more steps than there are wires (Laws/Steps.antt), so that many are allowed.
+-- 3.19: a step is listed and made, and the rest follows; where there is no step the rule ends
 unfoldable pub goOn : (Marks → List Step) → Marks → Option Step → List Step
 goOn rest leaf none = []
 goOn rest leaf (some s) = s ∷ rest (stepped leaf (s .w))
 
+-- 3.18, 3.19: the steps from these leaves on, at most as many as the number says
 unfoldable pub stepsFrom : Routine → Marks → ℕ → Marks → List Step
 stepsFrom R probe zero leaf = []
 stepsFrom R probe (suc k) leaf = goOn (stepsFrom R probe k) leaf (nextStep R probe leaf)
 
--- the list of steps of the observed wires
+-- 3.19, 3.23: the steps of the rule with these wires probed; n steps are enough for any run (3.22)
 unfoldable pub steps : Routine → List ℕ → List Step
 steps R ps = stepsFrom R (probed ps) (size R) (firstLeaves R)
 
--- the wires that the steps made leaves
+-- 3.14: the wires that the steps made leaves
 abbrev pub paddedWires : List Step → List ℕ
 paddedWires ss = map (λ s. s .w) ss
 
--- the leaves when no wire can be padded any more
+-- 3.19: the leaves when the rule has ended
 unfoldable pub lastLeaves : Routine → List ℕ → Marks
 lastLeaves R ps = mark (paddedWires (steps R ps)) (firstLeaves R)
 
--- the wires "live at the end"
+-- 3.26: the wires that are live when the rule has ended
 unfoldable pub liveAtEnd : Routine → List ℕ → Marks
 liveAtEnd R ps = live R (probed ps) (lastLeaves R ps)
 
--- bit k for each k below m that passes the test
+-- 3.27: the word whose bit k is 1 for each k below m that passes the test
 unfoldable pub word : ℕ → (ℕ → Bool) → ℕ
 word zero f = 0
 word (suc m) f = one (f m) * 2 ^ m + word m f
 
--- "The needed shares are the input shares live at the end": "a 64-bit word, bit k for wire k, all other bits 0"
+-- 3.26, 3.27: the word of the needed shares
 unfoldable pub neededShares : Routine → List ℕ → ℕ
 neededShares R ps = word (R .S * R .D) (at (liveAtEnd R ps))
 
--- the bits of secret i in the word of shares
+-- 3.28: the D bits of the word from bit i·D on
 unfoldable pub bitsOf : Routine → ℕ → ℕ → ℕ
 bitsOf R i shares = shares / 2 ^ (i * R .D) % 2 ^ R .D
 
--- "The needed shares of a secret are counted in a 64-bit word"
+-- 3.28: how many shares secret i needs
 unfoldable pub neededOf : Routine → List ℕ → ℕ → ℕ
 neededOf R ps i = ones (bitsOf R i (neededShares R ps))
+
+-- the definitions up to one step, to unfold at once
+unfoldable pub rule-marks : Unit {0}
+unfolding whole-routine probed randsFrom firstLeaves liveDown live padsOf pads consumes onlyConsumer serves padsBy canPad
+rule-marks = tt
+
+-- the definitions above, to unfold at once where a proof computes
+unfoldable pub whole-rule : Unit {0}
+unfolding rule-marks firstPad lowestPad nextStep goOn stepsFrom steps lastLeaves liveAtEnd word neededShares bitsOf neededOf ones onesIn
+whole-rule = tt
+
+-- ---- words of the statements
+
+-- 3.20: allowed steps, one after the other, from the leaves L₀ to the leaves L
+pub data Allowed (R : Routine) (probe L₀ : Marks) : Marks → Type 0 where
+  begin : Allowed R probe L₀ L₀
+  pad : {L : Marks} → Allowed R probe L₀ L → (w r : ℕ) → canPad R probe L w r ≡ true → Allowed R probe L₀ (stepped L w)
+
+-- 3.21: no step is left
+abbrev pub Stuck : Routine → Marks → Marks → Type 0
+Stuck R probe L = (w r : ℕ) → canPad R probe L w r ≡ false

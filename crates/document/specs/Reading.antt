@@ -1,14 +1,13 @@
--- Reading a routine text (01, "Routine text" and "Numbers of the refusals"): "Reading tests 10, 1, 2, 3, 4, then line by line 5, 6, 7, 8, 9."
--- 10 is of the lent list, and is tested before all of this.
+-- Reading a routine text (sections 1 and 7 of docs/SPECIFICATION.md). Refusal 10 is of the lent list, and is tested before all of this.
+use mathlib.Core.Path.{_≡_}
 use mathlib.Core.Bool.{Bool, true, false, _&&_, _||_, cond}
 use mathlib.Core.List.{List, [], _∷_}
 use Prim.Native.Nat.{ℕ, zero, suc, _+_, _-_, _*_, _/_, _%_}
 use lib.Dec.{eqb, ltb, leb}
-use lib.ListN.{length, getD, set, replicate}
+use lib.ListN.{length, getD, set, take, replicate}
 use Rattle.document.specs.Basics.{one, each}
-use Rattle.document.specs.Routine.{Routine, blank, isRand, isPub, inRange, routineOf}
-use Rattle.document.specs.Padding.{operandsOf}
-use Rattle.document.specs.Lines.{linesIn}
+use Rattle.document.specs.Routine.{whole-routine, Routine, blank, isRand, isPub, operandsOf, inRange, routineOf}
+use Rattle.document.specs.Lines.{whole-lines, linesIn, digit, tab, lf}
 use Rattle.document.specs.declared.Kind.{Kind}
 use Rattle.document.specs.declared.Kind.the-variants as K
 use Rattle.document.specs.declared.Wire.{Wire}
@@ -21,6 +20,8 @@ use Rattle.document.specs.declared.Outcome.the-variants.{Done, Refused}
 use Rattle.document.specs.declared.State.{State}
 use Rattle.document.specs.declared.Taken.{Taken}
 use Rattle.document.specs.declared.Read.{Read}
+use Rattle.document.specs.declared.Shape.{Shape}
+use Rattle.document.specs.declared.Listing.{Listing}
 
 -- ---- one line
 
@@ -30,7 +31,7 @@ taken st = record { outcome = Done; state = st }
 abbrev pub notTaken : Refusal → State → Taken
 notTaken f st = record { outcome = Refused f; state = st }
 
--- "make wire w, which must be the next number": the state with the wire made
+-- 1.16, 1.26, 1.27: the state with the next wire made
 unfoldable pub made : State → Kind → ℕ → ℕ → State
 made st k a b = record {
   s = st .s;
@@ -43,10 +44,11 @@ made st k a b = record {
   wires = set (st .wires) (st .n) (record { kind = k; a = a; b = b; out = false });
 }
 
--- "`out w`: marks a wire as output."
+-- 1.20: the record with the output mark
 abbrev pub withMark : Wire → Wire
 withMark x = record { kind = x .kind; a = x .a; b = x .b; out = true }
 
+-- 1.20, 1.21: the state with wire w marked
 unfoldable pub marked : State → ℕ → State
 marked st w = record {
   s = st .s;
@@ -59,33 +61,33 @@ marked st w = record {
   wires = set (st .wires) w (withMark (getD (st .wires) w blank));
 }
 
--- 6: "wire number not the next, or wire line after an `out`"
+-- 1.17, 1.21, 7.6: w is the next number, and no `out` line came before
 unfoldable pub isNext : State → ℕ → Bool
 isNext st w = eqb w (st .n) && eqb (st .outs) 0
 
--- 7: "an operand is not an earlier wire"
+-- 1.19, 7.7: the operands are below w
 unfoldable pub earlier : ℕ → Kind → ℕ → ℕ → Bool
 earlier w k a b = each (λ v. ltb v w) (operandsOf k a b)
 
--- 8: "129th wire, 65th random, 17th public"
+-- 1.43, 7.8: the ceilings leave room for one wire more of the kind
 unfoldable pub hasRoom : State → Kind → Bool
 hasRoom st k = ltb (st .n) 128 && leb (st .rands + one (isRand k)) 64 && leb (st .pubs + one (isPub k)) 16
 
--- a wire line: 6, 7, 8
+-- 1.42: a wire line is tested for its number, its operands and room
 unfoldable pub make : State → ℕ → Kind → ℕ → ℕ → Taken
 make st w k a b =
     cond (isNext st w)
     (cond (earlier w k a b) (cond (hasRoom st k) (taken (made st k a b)) (notTaken No.Ceiling st)) (notTaken No.Operand st))
     (notTaken No.Next st)
 
--- 8: "65th output"; 9: "`out` of no wire, or not above the previous one"
+-- 1.44, 7.8, 7.9: an `out` line is tested for room, and then for its wire
 unfoldable pub markOut : State → ℕ → Taken
 markOut st w =
     cond (ltb (st .outs) 64)
     (cond (ltb w (st .n) && leb (st .low) w) (taken (marked st w)) (notTaken No.Output st))
     (notTaken No.Ceiling st)
 
--- 5: "a later line is empty, has an unknown word, a wrong count of fields or a bad number"
+-- 1.11, 1.42, 1.44, 7.5: a later line is tested for its form first
 unfoldable pub takeLine : State → Line → Taken
 takeLine st L.Bad = notTaken No.Form st
 takeLine st (L.Head s d) = notTaken No.Form st
@@ -98,35 +100,42 @@ takeLine st (L.Out w) = markOut st w
 
 -- ---- the whole text
 
+-- 1.28, 1.37: 128 blank records
 unfoldable pub blanks : List Wire
 blanks = replicate 128 blank
 
--- "A refusal gives 0 for S, D, n"
+-- 1.38, 7.23: S, D and n are 0, and all records blank
+abbrev pub nothing : Listing
+nothing = record { shape = record { s = 0; d = 0; n = 0 }; wires = blanks }
+
+-- 1.36, 1.46: refusal f, at line k
 abbrev pub notRead : Refusal → ℕ → Read
-notRead f k = record { outcome = Refused f; line = k; s = 0; d = 0; n = 0; wires = blanks }
+notRead f k = record { outcome = Refused f; line = k; listing = nothing }
 
--- "The answer gives S, D and n."
+-- 1.36, 1.37: what is answered of an accepted text
 abbrev pub readAll : State → Read
-readAll st = record { outcome = Done; line = 0; s = st .s; d = st .d; n = st .n; wires = st .wires }
+readAll st = record { outcome = Done; line = 0; listing = record { shape = record { s = st .s; d = st .d; n = st .n }; wires = st .wires } }
 
--- "Refusals 3 to 9 of a routine text give the line number, counted from 1": the lines from number k on
+-- 1.41, 1.46: the first line that fails ends the reading, with its number, counted from 1
 abbrev pub onward : Outcome → ℕ → Read → Read
 onward Done k rest = rest
 onward (Refused f) k rest = notRead f k
 
+-- 1.41: the lines from number k on
 unfoldable pub readLines : ℕ → State → List Line → Read
 readLines k st [] = readAll st
 readLines k st (l ∷ ls) = onward (takeLine st l .outcome) k (readLines (k + 1) (takeLine st l .state) ls)
 
--- "wire k is share k mod D of secret k div D. They have no lines."
+-- 1.14, 1.15, 1.25: the records of the first wires, which are shares and have no lines
 unfoldable pub shareRecords : ℕ → ℕ → List Wire
 shareRecords d zero = blanks
 shareRecords d (suc k) = set (shareRecords d k) k (record { kind = K.Share; a = k / d; b = k % d; out = false })
 
+-- 1.14: the state behind the header
 unfoldable pub begun : ℕ → ℕ → State
 begun s d = record { s = s; d = d; n = s * d; rands = 0; pubs = 0; outs = 0; low = 0; wires = shareRecords d (s * d) }
 
--- 4: "S or D beyond its range"; 3: "first line not the word `routine` and two numbers as above"
+-- 1.11, 1.40, 7.3, 7.4: the header is tested for its form, and then for its ranges
 unfoldable pub fromHeader : Line → List Line → Read
 fromHeader (L.Head s d) ls = cond (inRange s d) (readLines 2 (begun s d) ls) (notRead No.Range 1)
 fromHeader L.Bad ls = notRead No.Header 1
@@ -137,21 +146,43 @@ fromHeader (L.And w a b) ls = notRead No.Header 1
 fromHeader (L.Not w a) ls = notRead No.Header 1
 fromHeader (L.Out w) ls = notRead No.Header 1
 
+-- 1.11, 7.3: the first line is the header
 unfoldable pub fromFirst : List Line → Read
 fromFirst [] = notRead No.Header 1
 fromFirst (l ∷ ls) = fromHeader l ls
 
--- 2: "a byte other than a to z, 0 to 9, tab, LF"
-abbrev pub letter : ℕ → Bool
-letter c = (leb 97 c && leb c 122) || (leb 48 c && leb c 57) || eqb c 9 || eqb c 10
+abbrev pub letterA : ℕ
+letterA = 97
 
--- 1: "text empty or over 4,096 bytes"; 2: ".. or the last byte is not LF"
+abbrev pub letterZ : ℕ
+letterZ = 122
+
+-- 1.3, 7.2: a small letter, a digit, a tab or LF
+abbrev pub letter : ℕ → Bool
+letter c = (leb letterA c && leb c letterZ) || digit c || eqb c tab || eqb c lf
+
+-- 1.2, 1.3, 1.39, 7.1, 7.2: the length is tested first, then all bytes and the last
 unfoldable pub reading : List ℕ → Read
 reading text =
     cond (ltb 0 (length text) && leb (length text) 4096)
-    (cond (each letter text && eqb (getD text (length text - 1) 0) 10) (fromFirst (linesIn text)) (notRead No.Byte 0))
+    (cond (each letter text && eqb (getD text (length text - 1) 0) lf) (fromFirst (linesIn text)) (notRead No.Byte 0))
     (notRead No.Length 0)
 
--- the routine that was read
-abbrev pub routineIn : Read → Routine
-routineIn r = routineOf (r .s) (r .d) (r .n) (r .wires)
+-- 6.3: the routine of a listing
+abbrev pub routineIn : Listing → Routine
+routineIn l = routineOf (l .shape) (l .wires)
+
+-- the definitions above, to unfold at once where a proof computes
+unfoldable pub whole-reading : Unit {0}
+unfolding whole-lines whole-routine made marked isNext earlier hasRoom make markOut takeLine blanks readLines shareRecords begun
+    fromHeader fromFirst reading
+whole-reading = tt
+
+-- ---- words of the statements
+
+-- 1.34: some accepted text gives these sizes and these first n records
+pub record CouldBeRead (σ : Shape) (ws : List Wire) : Type 0 where
+  pub text : List ℕ
+  pub is-read : reading text .outcome ≡ Done
+  pub sizes : reading text .listing .shape ≡ σ
+  pub first : take (σ .n) (reading text .listing .wires) ≡ take (σ .n) ws

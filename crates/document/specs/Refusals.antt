@@ -1,39 +1,39 @@
--- The numbers of the refusals (01, "Numbers of the refusals").
+-- The numbers of the refusals (section 7 of docs/SPECIFICATION.md).
 use Prim.Native.Nat.{ℕ}
 use Rattle.document.specs.declared.Refusal.{Refusal}
 use Rattle.document.specs.declared.Refusal.the-variants as R
 
--- "No. | Given when"
+-- 7.1 to 7.16: the number of a refusal
 abbrev pub numberOf : Refusal → ℕ
--- "text empty or over 4,096 bytes"
+-- 7.1: the text is empty or longer than 4,096 bytes
 numberOf R.Length = 1
--- "a byte other than a to z, 0 to 9, tab, LF; or the last byte is not LF"
+-- 7.2: a byte that no text has, or no LF at the end
 numberOf R.Byte = 2
--- "first line not the word `routine` and two numbers as above"
+-- 7.3: line 1 is no header
 numberOf R.Header = 3
--- "S or D beyond its range"
+-- 7.4: S or D is out of range
 numberOf R.Range = 4
--- "a later line is empty, has an unknown word, a wrong count of fields or a bad number"
+-- 7.5: a later line is malformed
 numberOf R.Form = 5
--- "wire number not the next, or wire line after an `out`"
+-- 7.6: a wire line does not have the next number, or stands behind an `out` line
 numberOf R.Next = 6
--- "an operand is not an earlier wire"
+-- 7.7: an operand is not below its wire
 numberOf R.Operand = 7
--- "129th wire, 65th random, 17th public, 65th output"
+-- 7.8: one wire, random, public or output too many
 numberOf R.Ceiling = 8
--- "`out` of no wire, or not above the previous one"
+-- 7.9: an `out` line with no wire, or not above the one before it
 numberOf R.Output = 9
--- "lent list shorter than 128"
+-- 7.10: the list lent to a read is too short
 numberOf R.Lent = 10
--- "S, D, n and the first n records are not what a read could have given, or the list is shorter than n"
+-- 7.11: fewer than n records, or no well-formed routine
 numberOf R.Records = 11
--- "order not 1 to 4, or not below D"
+-- 7.12: the order is not allowed
 numberOf R.Order = 12
--- "probe set empty, larger than the order, not ascending, or naming no wire; also a refused addition"
+-- 7.13: the probe set does not suit the call, or an addition is refused
 numberOf R.Probes = 13
--- "a share, random or public bit set beyond the routine's own"
+-- 7.14: a word of a run does not fit
 numberOf R.Bits = 14
--- "lent byte buffer too short"
+-- 7.15: the lent buffer is too short
 numberOf R.Buffer = 15
--- "list of steps full"
+-- 7.16: too many steps for their list
 numberOf R.Steps = 16

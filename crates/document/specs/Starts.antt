@@ -1,42 +1,46 @@
--- Starts and pattern counts (demand 3).
+-- Starts, and how many of them show a pattern (section 9 of docs/SPECIFICATION.md).
 use mathlib.Core.Bool.{Bool}
 use mathlib.Core.List.{List, [], _∷_, map, flatMap}
-use Prim.Native.Nat.{ℕ, zero, suc, _+_, _*_}
+use Prim.Native.Nat.{ℕ, zero, suc, _+_, _*_, _<_}
 use lib.Dec.{eqb}
 use lib.ListN.{length, getD}
 use Rattle.document.specs.Basics.{all, same, keep, upTo}
 use Rattle.document.specs.Routine.{Routine, size, randsBefore}
 use Rattle.document.specs.Running.{Value, running}
 
--- every word of m values
+-- every list of m values
 unfoldable pub allWords : Value → ℕ → List (List ℕ)
 allWords K zero = [] ∷ []
 allWords K (suc m) = flatMap (λ v. map (λ xs. v ∷ xs) (allWords K m)) (upTo (K .many) 0)
 
--- the xor of the first k of the values
+-- 9.2: the first k of the values, xored
 unfoldable pub xorOf : Value → ℕ → (ℕ → ℕ) → ℕ
 xorOf K zero f = 0
 xorOf K (suc k) f = K .plus (xorOf K k f) (f k)
 
--- "split each secret into D shares that xor to it": wire i times D + j is share j of secret i
+-- 9.1, 9.2: the D shares of each secret i, from wire i·D on, xor to it; a missing bit counts as 0
 unfoldable pub splits : Value → Routine → List ℕ → List ℕ → Bool
 splits K R secrets shares = all (R .S) (λ i. eqb (xorOf K (R .D) (λ j. getD shares (i * R .D + j) 0)) (getD secrets i 0))
 
--- a start: the shares and the randoms
+-- 9.7: each value of the list is below b
+abbrev pub Small : ℕ → List ℕ → Type 0
+Small b xs = (k : ℕ) → getD xs k 0 < b
+
+-- 9.2: a value for every input share and for every random
 pub record Start : Type 0 where
   pub shares : List ℕ
   pub randoms : List ℕ
 
--- "A start is one way to split each secret into D shares that xor to it, and to draw the randoms."
+-- 9.2, 9.3: the starts of a choice of the secrets, each splitting with each way to draw the randoms
 unfoldable pub starts : Value → Routine → List ℕ → List Start
 starts K R secrets =
     flatMap (λ x. map (λ ρ. record { shares = x; randoms = ρ }) (allWords K (randsBefore R (size R))))
     (keep (splits K R secrets) (allWords K (R .S * R .D)))
 
--- what is observed of the wires when the routine is run from the start
+-- 9.4: the pattern that the wires ps show from the start
 unfoldable pub observed : Value → Routine → List ℕ → List ℕ → Start → List ℕ
 observed K R publics ps s = map (λ w. getD (running K R (s .shares) (s .randoms) publics) w 0) ps
 
--- from how many starts of these secrets the observed wires show the pattern
+-- 9.5, 9.6: from how many starts of these secrets the wires show just this pattern
 unfoldable pub patternCount : Value → Routine → List ℕ → List ℕ → List ℕ → List ℕ → ℕ
 patternCount K R publics ps pattern secrets = length (keep (λ s. same (observed K R publics ps s) pattern) (starts K R secrets))

@@ -1,13 +1,25 @@
-// The data of the document: wire records, probe sets, steps, answers and refusals; and how probe sets are built.
-// What they mean is said in specs/, a file for a section of the document.
+// The data that all crates share: wire records, probe sets, steps, answers and refusals; and how probe sets are built.
+// What they mean is defined in specs/; the numbers are those of the sentences in docs/SPECIFICATION.md.
 ghost use mathlib.Core.Path.{_≡_};
-ghost use Prim.Native.Nat.{_+_, _≤_, _<_};
+ghost use Prim.Native.Nat.{_+_, _≤_, _<_, min};
 ghost use lib.ListN.{take, getD};
 ghost use Rattle.document.specs.Basics.{elem};
 ghost use Rattle.document.specs.ProbeSets.{ascending, emptySet, mayAdd, adding};
-ghost use Rattle.document.specs.Laws.Placing.{rank, placedAt, placesWith};
+ghost use Rattle.document.specs.Routine.{inRange};
+ghost use Rattle.document.specs.Reading.{blanks};
+ghost use Rattle.document.specs.Refusals.{numberOf};
+ghost use Rattle.document.specs.Placing.{rank, placedAt, placesWith};
 
-// What makes a wire.
+// 1.3, 8.9: bytes by name: what parts the fields of a text, what closes a line, what parts printed fields, and the digit 0.
+pub const TAB: u8 = 9;
+
+pub const LF: u8 = 10;
+
+pub const SPACE: u8 = 32;
+
+pub const ZERO: u8 = 48;
+
+// 1.24: what makes a wire.
 pub enum Kind {
     Share,
     Rand,
@@ -17,7 +29,7 @@ pub enum Kind {
     Not,
 }
 
-// A wire record: its kind, two operands (of a share: secret and share number) and the output mark.
+// 1.24: a wire record has its kind, two operands (of a share: secret and share number) and the output mark.
 pub struct Wire {
     pub kind: Kind,
     pub a: u8,
@@ -25,13 +37,26 @@ pub struct Wire {
     pub out: bool,
 }
 
-// A field read as a number: decimal, one to three digits.
+// 6.1: the sizes of a routine, S secrets of D shares each and n wires.
+pub struct Shape {
+    pub s: usize,
+    pub d: usize,
+    pub n: usize,
+}
+
+// 6.2: a routine by value has its sizes, and its records, of which the first n matter.
+pub struct Listing {
+    pub shape: Shape,
+    pub wires: [Wire; 128],
+}
+
+// 1.6: a field read as a number, decimal, of one to three digits.
 pub enum Number {
     Bad,
     Is(usize),
 }
 
-// A field read as a word.
+// 1.8: a field read as a word.
 pub enum Word {
     Other,
     Routine,
@@ -43,7 +68,7 @@ pub enum Word {
     Out,
 }
 
-// A line by its form: its word and its numbers, or none that a routine text has.
+// 1.9, 1.10: a line by its form, its word and its numbers, or none that a routine text has.
 pub enum Line {
     Bad,
     Head(usize, usize),
@@ -55,7 +80,7 @@ pub enum Line {
     Out(usize),
 }
 
-// The refusals, in the order of their table; specs/Refusals.antt gives each its number.
+// 7.1 to 7.16: the refusals, in the order of their numbers.
 pub enum Refusal {
     Length,
     Byte,
@@ -75,13 +100,13 @@ pub enum Refusal {
     Steps,
 }
 
-// What became of a call that has nothing to count.
+// 1.36: what became of a call that has nothing to count.
 pub enum Outcome {
     Done,
     Refused(Refusal),
 }
 
-// What was read so far: S, D, n, how many randoms, publics and outputs, one above the last output (0 before any), and the records.
+// 1.41: what was read so far, S, D, n, how many randoms, publics and outputs, one above the last output (0 before any), and the records.
 pub struct State {
     pub s: usize,
     pub d: usize,
@@ -93,60 +118,64 @@ pub struct State {
     pub wires: [Wire; 128],
 }
 
-// What became of one line, and the state after it.
+// 1.41: what became of one line, and the state after it.
 pub struct Taken {
     pub outcome: Outcome,
     pub state: State,
 }
 
-// A read routine, or a refusal with the line at fault.
+// 1.36: a read routine, or a refusal with the line at fault.
 pub struct Read {
     pub outcome: Outcome,
     pub line: usize,
-    pub s: usize,
-    pub d: usize,
-    pub n: usize,
-    pub wires: [Wire; 128],
+    pub listing: Listing,
 }
 
-// What became of a writing, and how many bytes it wrote.
+// 6.7: what became of a read into a lent list, which has the records.
+pub struct Filled {
+    pub outcome: Outcome,
+    pub line: usize,
+    pub shape: Shape,
+}
+
+// 6.11: what became of a writing, and how many bytes it wrote.
 pub struct Written {
     pub outcome: Outcome,
     pub len: usize,
 }
 
-// What became of a run, and how many bytes it wrote.
+// 2.7: what became of a run, and how many bytes it wrote.
 pub struct Ran {
     pub outcome: Outcome,
     pub len: usize,
 }
 
-// Up to four wire numbers in ascending order: the first `len` places.
+// 4.1: up to four wire numbers, in the first `len` places.
 pub struct ProbeSet {
     pub places: [u8; 4],
     pub len: usize,
 }
 
-// A set handed back by an addition, with what became of the addition.
+// 4.5: a set handed back by an addition, with what became of the addition.
 pub struct Added {
     pub outcome: Outcome,
     pub set: ProbeSet,
 }
 
-// A padding step: wire w was made a leaf by its operand r.
+// 3.19: a padding step, wire w made a leaf by its operand r.
 pub struct Step {
     pub w: u8,
     pub r: u8,
 }
 
-// The needed shares of one set: bit k for wire k. Undecided: the set is plain-open at the order.
+// 5.22, 5.23: the needed shares of one set, bit k for wire k; undecided says that the set is plain-open at the order.
 pub struct Needed {
     pub outcome: Outcome,
     pub shares: u64,
     pub undecided: bool,
 }
 
-// The steps of one set: the first `len` of them, unused ones 0, 0.
+// 5.22, 5.25: the steps of one set, in the first `len` pairs; the others are 0, 0.
 pub struct Padded {
     pub outcome: Outcome,
     pub steps: [Step; 128],
@@ -154,20 +183,78 @@ pub struct Padded {
     pub undecided: bool,
 }
 
-// The verdict of a judgement, with the count of sets judged, the open one included.
+// 5.3, 5.4: which judgement is asked for.
+pub enum Which {
+    Plain,
+    Strong,
+}
+
+// 5.13, 5.14: the verdict of a judgement, with the count of sets judged, the open one included.
 pub enum Verdict {
     Pass(u64),
     Open(u64),
     Refused(Refusal),
 }
 
-// A judgement's answer: the set is empty unless the verdict is open.
+// 5.14, 5.15: a judgement's answer; the set is empty unless the verdict is open.
 pub struct Judged {
     pub verdict: Verdict,
     pub set: ProbeSet,
 }
 
-// Each held wire is above the one before it.
+impl Refusal {
+    // 7.1 to 7.16: its number.
+    pub fn number(self) -> u64
+        ensures { λ r. ⌜ r ≡ numberOf self ⌝ }
+    {
+        match self {
+            Refusal::Length => 1,
+            Refusal::Byte => 2,
+            Refusal::Header => 3,
+            Refusal::Range => 4,
+            Refusal::Form => 5,
+            Refusal::Next => 6,
+            Refusal::Operand => 7,
+            Refusal::Ceiling => 8,
+            Refusal::Output => 9,
+            Refusal::Lent => 10,
+            Refusal::Records => 11,
+            Refusal::Order => 12,
+            Refusal::Probes => 13,
+            Refusal::Bits => 14,
+            Refusal::Buffer => 15,
+            Refusal::Steps => 16,
+        }
+    }
+}
+
+// The lower of two numbers.
+pub fn lower(a: usize, b: usize) -> usize
+    ensures { λ r. ⌜ r ≡ min a b ⌝ }
+{
+    if a < b { a } else { b }
+}
+
+// 1.12: S and D are in their ranges.
+pub fn in_range(s: usize, d: usize) -> bool
+    ensures { λ r. ⌜ r ≡ inRange s d ⌝ }
+{
+    (1 <= s) & (s <= 8) & (2 <= d) & (d <= 8)
+}
+
+// 1.28: the records of an array where there is no wire.
+pub fn blank_wires() -> [Wire; 128]
+    ensures { λ r. ⌜ r ≡ blanks ⌝ }
+{
+    [Wire {
+        kind: Kind::Share,
+        a: 0,
+        b: 0,
+        out: false,
+    }; 128]
+}
+
+// 4.3: each held wire is above the one before it.
 pub fn is_ascending(places: [u8; 4], len: usize) -> bool
     requires { ⌜ len ≤ 4 ⌝ }
     ensures { λ r. ⌜ r ≡ ascending (take len places) ⌝ }
@@ -212,7 +299,7 @@ fn rank_of(places: [u8; 4], len: usize, w: usize) -> usize
     i
 }
 
-// An addition is not refused.
+// 4.6: an addition is not refused.
 fn may_add(set: ProbeSet, w: usize) -> bool
     ensures { λ r. ⌜ r ≡ mayAdd set w ⌝ }
 {
@@ -260,7 +347,7 @@ fn places_with(places: [u8; 4], len: usize, k: usize, w: u8) -> [u8; 4]
 }
 
 impl ProbeSet {
-    // The set that a building starts with.
+    // 4.4: the set that a building starts with.
     pub fn empty() -> ProbeSet
         ensures { λ r. ⌜ r ≡ emptySet ⌝ }
     {
@@ -270,7 +357,7 @@ impl ProbeSet {
         }
     }
 
-    // The set with w put in at its place, or as it came.
+    // 4.5 to 4.10: the set with w put in at its place, or as it came.
     pub fn add(self, w: usize) -> Added
         ensures { λ r. ⌜ r ≡ adding self w ⌝ }
     {

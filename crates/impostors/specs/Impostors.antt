@@ -1,5 +1,6 @@
--- "Four impostors are tried against it." What a call over a lent list would answer is a function f, and its contract asks that f answers each input so. The theorems say of each
--- impostor that it does not. They hold of the calls on values too, whose contracts cite the same definitions.
+-- Impostors: calls that refuse everything, always or never say open, make no padding step or only the first, or invent a count. What a call
+-- would answer is a function f, and its contract asks that f answers each input so: the theorems say of each impostor that it does not.
+-- They speak of the calls over a lent list, of lists of any length; the calls on values cite the same definitions.
 use mathlib.Core.Path.{_≡_, sym, ap, _∙_}
 use mathlib.Core.Bool.{Bool, false, true≢false}
 use mathlib.Core.List.{List, [], _∷_}
@@ -9,7 +10,7 @@ use lib.ListN.{getD, replicate}
 use Rattle.document.specs.Reading.{blanks}
 use Rattle.document.specs.ProbeSets.{setOf}
 use Rattle.document.specs.Judgements.{Judgement, plain, strong, stepList}
-use Rattle.document.specs.Lent.{lentWritten, lentWrittenInto, lentRan, lentRanInto, lentNeeding, lentPadding, lentJudged}
+use Rattle.document.specs.Lent.{lentRead, lentReadInto, lentWritten, lentWrittenInto, lentRan, lentRanInto, lentNeeding, lentPadding, lentJudged}
 use Rattle.document.specs.declared.Judged.{Judged}
 use Rattle.document.specs.declared.Needed.{Needed}
 use Rattle.document.specs.declared.Outcome.{Outcome}
@@ -21,10 +22,12 @@ use Rattle.document.specs.declared.Verdict.{Verdict}
 use Rattle.document.specs.declared.Verdict.the-variants as Says
 use Rattle.document.specs.declared.Wire.{Wire}
 use Rattle.document.specs.declared.Written.{Written}
-use Rattle.reader.specs.TextExamples.{bytes}
-use Rattle.lent.specs.ReadInto.{lentRead, lentReadInto}
-use Rattle.lent.specs.declared.Filled.{Filled}
-use Rattle.impostors.specs.Worked.{listA, listB, sum, pair, bare, textBare, sharesAfter, worked-plain, worked-strong, worked-needs, worked-pads, too-few-steps, worked-read, worked-write, worked-run}
+use Rattle.document.specs.Examples.{exampleA, exampleB}
+use Rattle.document.specs.declared.Filled.{Filled}
+use Rattle.document.specs.declared.Shape.{Shape}
+use Rattle.reader.specs.Laws.TextExamples.{bytes}
+use Rattle.impostors.specs.Laws.Worked.{sized, listA, listB, sum, pair, bare, textBare, sharesAfter}
+use Rattle.impostors.specs.Laws.Worked.{worked-plain, worked-strong, worked-needs, worked-pads, too-few-steps, worked-read, worked-write, worked-run}
 
 -- two different numbers are not one
 apart : {k : ℕ} → 0 ≡ k → 1 ≡ k → ⊥
@@ -43,31 +46,31 @@ count (Says.Pass k) = k
 count (Says.Open k) = k
 count (Says.Refused f) = 0
 
--- f answers as the contract of `lent::plain` or `lent::strong` asks
-abbrev pub Judges : Judgement → (ℕ → ℕ → ℕ → List Wire → ℕ → Judged) → Type 0
-Judges J f = (s d n : ℕ) (list : List Wire) (t : ℕ) → f s d n list t ≡ lentJudged J s d n list t
+-- f answers as the contract of a judging call asks
+abbrev pub JudgesAll : Judgement → (Shape → List Wire → ℕ → Judged) → Type 0
+JudgesAll J f = (σ : Shape) (list : List Wire) (t : ℕ) → f σ list t ≡ lentJudged J σ list t
 
-module _ (f : ℕ → ℕ → ℕ → List Wire → ℕ → Judged) where
+module _ (f : Shape → List Wire → ℕ → Judged) where
   -- it refuses everything, or always says pass, or always open
   abbrev pub OneSort : ℕ → Type 0
-  OneSort k = (s d n : ℕ) (list : List Wire) (t : ℕ) → sort (f s d n list t .verdict) ≡ k
+  OneSort k = (σ : Shape) (list : List Wire) (t : ℕ) → sort (f σ list t .verdict) ≡ k
 
-  pub plain-not-one : Judges plain f → (k : ℕ) → OneSort k → ⊥
+  pub plain-not-one : JudgesAll plain f → (k : ℕ) → OneSort k → ⊥
   plain-not-one meets k one = apart
-      (sym (ap (λ (j : Judged). sort (j .verdict)) (meets 1 3 9 listA 1 ∙ worked-plain .0)) ∙ one 1 3 9 listA 1)
-      (sym (ap (λ (j : Judged). sort (j .verdict)) (meets 1 2 3 listB 1 ∙ worked-plain .1)) ∙ one 1 2 3 listB 1)
+      (sym (ap (λ (j : Judged). sort (j .verdict)) (meets (sized exampleA) listA 1 ∙ worked-plain .0)) ∙ one (sized exampleA) listA 1)
+      (sym (ap (λ (j : Judged). sort (j .verdict)) (meets (sized exampleB) listB 1 ∙ worked-plain .1)) ∙ one (sized exampleB) listB 1)
 
-  pub strong-not-one : Judges strong f → (k : ℕ) → OneSort k → ⊥
+  pub strong-not-one : JudgesAll strong f → (k : ℕ) → OneSort k → ⊥
   strong-not-one meets k one = apart
-      (sym (ap (λ (j : Judged). sort (j .verdict)) (meets 1 3 9 listA 2 ∙ worked-strong .0)) ∙ one 1 3 9 listA 2)
-      (sym (ap (λ (j : Judged). sort (j .verdict)) (meets 1 3 4 (pair .wires) 2 ∙ worked-strong .1)) ∙ one 1 3 4 (pair .wires) 2)
+      (sym (ap (λ (j : Judged). sort (j .verdict)) (meets (sized exampleA) listA 2 ∙ worked-strong .0)) ∙ one (sized exampleA) listA 2)
+      (sym (ap (λ (j : Judged). sort (j .verdict)) (meets (sized pair) (pair .wires) 2 ∙ worked-strong .1)) ∙ one (sized pair) (pair .wires) 2)
 
   -- it invents its count
-  pub plain-count : Judges plain f → count (f 1 3 9 listA 1 .verdict) ≡ 9
-  plain-count meets = ap (λ (j : Judged). count (j .verdict)) (meets 1 3 9 listA 1 ∙ worked-plain .0)
+  pub plain-count : JudgesAll plain f → count (f (sized exampleA) listA 1 .verdict) ≡ 9
+  plain-count meets = ap (λ (j : Judged). count (j .verdict)) (meets (sized exampleA) listA 1 ∙ worked-plain .0)
 
-  pub strong-count : Judges strong f → count (f 1 3 4 (pair .wires) 2 .verdict) ≡ 4
-  strong-count meets = ap (λ (j : Judged). count (j .verdict)) (meets 1 3 4 (pair .wires) 2 ∙ worked-strong .1)
+  pub strong-count : JudgesAll strong f → count (f (sized pair) (pair .wires) 2 .verdict) ≡ 4
+  strong-count meets = ap (λ (j : Judged). count (j .verdict)) (meets (sized pair) (pair .wires) 2 ∙ worked-strong .1)
 
 -- ---- one probe set
 
@@ -76,61 +79,67 @@ abbrev pub done : Outcome → ℕ
 done Done = 0
 done (Refused f) = 1
 
-abbrev pub Needs : (ℕ → ℕ → ℕ → List Wire → ℕ → ProbeSet → Needed) → Type 0
-Needs f = (s d n : ℕ) (list : List Wire) (t : ℕ) (set : ProbeSet) → f s d n list t set ≡ lentNeeding s d n list t set
+abbrev pub NeedsAll : (Shape → List Wire → ℕ → ProbeSet → Needed) → Type 0
+NeedsAll f = (σ : Shape) (list : List Wire) (t : ℕ) (set : ProbeSet) → f σ list t set ≡ lentNeeding σ list t set
 
-module _ (f : ℕ → ℕ → ℕ → List Wire → ℕ → ProbeSet → Needed) (meets : Needs f) where
-  none : f 1 3 11 (sum .wires) 1 (setOf (10 ∷ [])) ≡ record { outcome = Done; shares = 0; undecided = false }
-  none = meets 1 3 11 (sum .wires) 1 (setOf (10 ∷ [])) ∙ worked-needs .0
+module _ (f : Shape → List Wire → ℕ → ProbeSet → Needed) (meets : NeedsAll f) where
+  none : f (sized sum) (sum .wires) 1 (setOf (10 ∷ [])) ≡ record { outcome = Done; shares = 0; undecided = false }
+  none = meets (sized sum) (sum .wires) 1 (setOf (10 ∷ [])) ∙ worked-needs .0
 
   -- it refuses everything, or nothing
-  pub needs-not-one : (k : ℕ) → ((s d n : ℕ) (list : List Wire) (t : ℕ) (set : ProbeSet) → done (f s d n list t set .outcome) ≡ k) → ⊥
+  pub needs-not-one : (k : ℕ) → ((σ : Shape) (list : List Wire) (t : ℕ) (set : ProbeSet) → done (f σ list t set .outcome) ≡ k) → ⊥
   needs-not-one k one = apart
-      (sym (ap (λ (a : Needed). done (a .outcome)) none) ∙ one 1 3 11 (sum .wires) 1 (setOf (10 ∷ [])))
-      (sym (ap (λ (a : Needed). done (a .outcome)) (meets 1 3 4 (pair .wires) 0 (setOf (3 ∷ [])) ∙ worked-needs .2)) ∙ one 1 3 4 (pair .wires) 0 (setOf (3 ∷ [])))
+      (sym (ap (λ (a : Needed). done (a .outcome)) none) ∙ one (sized sum) (sum .wires) 1 (setOf (10 ∷ [])))
+      (sym (ap (λ (a : Needed). done (a .outcome)) (meets (sized pair) (pair .wires) 0 (setOf (3 ∷ [])) ∙ worked-needs .2))
+      ∙ one (sized pair) (pair .wires) 0 (setOf (3 ∷ [])))
 
   -- it always says open, or never
-  pub needs-not-always : (b : Bool) → ((s d n : ℕ) (list : List Wire) (t : ℕ) (set : ProbeSet) → f s d n list t set .undecided ≡ b) → ⊥
+  pub needs-not-always : (b : Bool) → ((σ : Shape) (list : List Wire) (t : ℕ) (set : ProbeSet) → f σ list t set .undecided ≡ b) → ⊥
   needs-not-always b always = true≢false
-      (sym (ap (λ (a : Needed). a .undecided) (meets 1 3 4 (pair .wires) 1 (setOf (3 ∷ [])) ∙ worked-needs .1)) ∙ always 1 3 4 (pair .wires) 1 (setOf (3 ∷ []))
-      ∙ sym (always 1 3 11 (sum .wires) 1 (setOf (10 ∷ []))) ∙ ap (λ (a : Needed). a .undecided) none)
+      (sym (ap (λ (a : Needed). a .undecided) (meets (sized pair) (pair .wires) 1 (setOf (3 ∷ [])) ∙ worked-needs .1))
+      ∙ always (sized pair) (pair .wires) 1 (setOf (3 ∷ []))
+      ∙ sym (always (sized sum) (sum .wires) 1 (setOf (10 ∷ []))) ∙ ap (λ (a : Needed). a .undecided) none)
 
   -- it makes no padding step, or the first alone
-  pub needs-no-step : f 1 3 11 (sum .wires) 1 (setOf (10 ∷ [])) .shares ≡ sharesAfter 0 sum (10 ∷ []) → ⊥
+  pub needs-no-step : f (sized sum) (sum .wires) 1 (setOf (10 ∷ [])) .shares ≡ sharesAfter 0 sum (10 ∷ []) → ⊥
   needs-no-step e = omega (arith, e, ap (λ (a : Needed). a .shares) none, too-few-steps .0)
 
-  pub needs-first-step : f 1 3 11 (sum .wires) 1 (setOf (10 ∷ [])) .shares ≡ sharesAfter 1 sum (10 ∷ []) → ⊥
+  pub needs-first-step : f (sized sum) (sum .wires) 1 (setOf (10 ∷ [])) .shares ≡ sharesAfter 1 sum (10 ∷ []) → ⊥
   needs-first-step e = omega (arith, e, ap (λ (a : Needed). a .shares) none, too-few-steps .1)
 
-abbrev pub Pads : (ℕ → ℕ → ℕ → List Wire → ℕ → ProbeSet → Padded) → Type 0
-Pads f = (s d n : ℕ) (list : List Wire) (t : ℕ) (set : ProbeSet) → f s d n list t set ≡ lentPadding s d n list t set
+abbrev pub PadsAll : (Shape → List Wire → ℕ → ProbeSet → Padded) → Type 0
+PadsAll f = (σ : Shape) (list : List Wire) (t : ℕ) (set : ProbeSet) → f σ list t set ≡ lentPadding σ list t set
 
-module _ (f : ℕ → ℕ → ℕ → List Wire → ℕ → ProbeSet → Padded) (meets : Pads f) where
+module _ (f : Shape → List Wire → ℕ → ProbeSet → Padded) (meets : PadsAll f) where
   -- it refuses everything, or nothing
-  pub pads-not-one : (k : ℕ) → ((s d n : ℕ) (list : List Wire) (t : ℕ) (set : ProbeSet) → done (f s d n list t set .outcome) ≡ k) → ⊥
+  pub pads-not-one : (k : ℕ) → ((σ : Shape) (list : List Wire) (t : ℕ) (set : ProbeSet) → done (f σ list t set .outcome) ≡ k) → ⊥
   unfolding stepList
   pads-not-one k one = apart
-      (sym (ap (λ (a : Padded). done (a .outcome)) (meets 1 3 11 (sum .wires) 1 (setOf (10 ∷ [])) ∙ worked-pads .0)) ∙ one 1 3 11 (sum .wires) 1 (setOf (10 ∷ [])))
-      (sym (ap (λ (a : Padded). done (a .outcome)) (meets 1 3 4 (pair .wires) 0 (setOf (3 ∷ [])) ∙ worked-pads .2)) ∙ one 1 3 4 (pair .wires) 0 (setOf (3 ∷ [])))
+      (sym (ap (λ (a : Padded). done (a .outcome)) (meets (sized sum) (sum .wires) 1 (setOf (10 ∷ [])) ∙ worked-pads .0))
+      ∙ one (sized sum) (sum .wires) 1 (setOf (10 ∷ [])))
+      (sym (ap (λ (a : Padded). done (a .outcome)) (meets (sized pair) (pair .wires) 0 (setOf (3 ∷ [])) ∙ worked-pads .2))
+      ∙ one (sized pair) (pair .wires) 0 (setOf (3 ∷ [])))
 
   -- it always says open, or never
-  pub pads-not-always : (b : Bool) → ((s d n : ℕ) (list : List Wire) (t : ℕ) (set : ProbeSet) → f s d n list t set .undecided ≡ b) → ⊥
+  pub pads-not-always : (b : Bool) → ((σ : Shape) (list : List Wire) (t : ℕ) (set : ProbeSet) → f σ list t set .undecided ≡ b) → ⊥
   unfolding stepList
   pads-not-always b always = true≢false
-      (sym (ap (λ (a : Padded). a .undecided) (meets 1 3 4 (pair .wires) 1 (setOf (3 ∷ [])) ∙ worked-pads .1)) ∙ always 1 3 4 (pair .wires) 1 (setOf (3 ∷ []))
-      ∙ sym (always 1 3 11 (sum .wires) 1 (setOf (10 ∷ []))) ∙ ap (λ (a : Padded). a .undecided) (meets 1 3 11 (sum .wires) 1 (setOf (10 ∷ [])) ∙ worked-pads .0))
+      (sym (ap (λ (a : Padded). a .undecided) (meets (sized pair) (pair .wires) 1 (setOf (3 ∷ [])) ∙ worked-pads .1))
+      ∙ always (sized pair) (pair .wires) 1 (setOf (3 ∷ []))
+      ∙ sym (always (sized sum) (sum .wires) 1 (setOf (10 ∷ [])))
+      ∙ ap (λ (a : Padded). a .undecided) (meets (sized sum) (sum .wires) 1 (setOf (10 ∷ [])) ∙ worked-pads .0))
 
   -- it makes no padding step, or the first alone: there are five
-  pub pads-steps : f 1 3 11 (sum .wires) 1 (setOf (10 ∷ [])) .len ≡ 5
+  pub pads-steps : f (sized sum) (sum .wires) 1 (setOf (10 ∷ [])) .len ≡ 5
   unfolding stepList
-  pads-steps = ap (λ (a : Padded). a .len) (meets 1 3 11 (sum .wires) 1 (setOf (10 ∷ [])) ∙ worked-pads .0)
+  pads-steps = ap (λ (a : Padded). a .len) (meets (sized sum) (sum .wires) 1 (setOf (10 ∷ [])) ∙ worked-pads .0)
 
 -- ---- reading, writing and running
 
-abbrev pub Reads : (List ℕ → List Wire → Filled) → (List ℕ → List Wire → List Wire) → Type 0
-Reads f after = (text : List ℕ) (list : List Wire) → (f text list ≡ lentRead text list) × (after text list ≡ lentReadInto text list)
+abbrev pub ReadsAll : (List ℕ → List Wire → Filled) → (List ℕ → List Wire → List Wire) → Type 0
+ReadsAll f after = (text : List ℕ) (list : List Wire) → (f text list ≡ lentRead text list) × (after text list ≡ lentReadInto text list)
 
-module _ (f : List ℕ → List Wire → Filled) (after : List ℕ → List Wire → List Wire) (meets : Reads f after) where
+module _ (f : List ℕ → List Wire → Filled) (after : List ℕ → List Wire → List Wire) (meets : ReadsAll f after) where
   -- it refuses everything, or nothing
   pub read-not-one : (k : ℕ) → ((text : List ℕ) (list : List Wire) → done (f text list .outcome) ≡ k) → ⊥
   read-not-one k one = apart
@@ -138,43 +147,47 @@ module _ (f : List ℕ → List Wire → Filled) (after : List ℕ → List Wire
       (sym (ap (λ (a : Filled). done (a .outcome)) (meets [] blanks .0 ∙ worked-read .2)) ∙ one [] blanks)
 
   -- it invents n
-  pub read-count : f textBare blanks .n ≡ 2
-  read-count = ap (λ (a : Filled). a .n) (meets textBare blanks .0 ∙ worked-read .0)
+  pub read-count : f textBare blanks .shape .n ≡ 2
+  read-count = ap (λ (a : Filled). a .shape .n) (meets textBare blanks .0 ∙ worked-read .0)
 
-abbrev pub Writes : (ℕ → ℕ → ℕ → List Wire → List ℕ → Written) → (ℕ → ℕ → ℕ → List Wire → List ℕ → List ℕ) → Type 0
-Writes f after = (s d n : ℕ) (list : List Wire) (buf : List ℕ) → (f s d n list buf ≡ lentWritten s d n list buf) × (after s d n list buf ≡ lentWrittenInto s d n list buf)
+abbrev pub WritesAll : (Shape → List Wire → List ℕ → Written) → (Shape → List Wire → List ℕ → List ℕ) → Type 0
+WritesAll f after = (σ : Shape) (list : List Wire) (buf : List ℕ) → (f σ list buf ≡ lentWritten σ list buf) × (after σ list buf ≡ lentWrittenInto σ list buf)
 
-module _ (f : ℕ → ℕ → ℕ → List Wire → List ℕ → Written) (after : ℕ → ℕ → ℕ → List Wire → List ℕ → List ℕ) (meets : Writes f after) where
+module _ (f : Shape → List Wire → List ℕ → Written) (after : Shape → List Wire → List ℕ → List ℕ) (meets : WritesAll f after) where
   -- it refuses everything, or nothing
-  pub write-not-one : (k : ℕ) → ((s d n : ℕ) (list : List Wire) (buf : List ℕ) → done (f s d n list buf .outcome) ≡ k) → ⊥
+  pub write-not-one : (k : ℕ) → ((σ : Shape) (list : List Wire) (buf : List ℕ) → done (f σ list buf .outcome) ≡ k) → ⊥
   write-not-one k one = apart
-      (sym (ap (λ (a : Written). done (a .outcome)) (meets 1 2 2 (bare .wires) (replicate 12 0) .0 ∙ worked-write .0)) ∙ one 1 2 2 (bare .wires) (replicate 12 0))
-      (sym (ap (λ (a : Written). done (a .outcome)) (meets 1 2 2 (bare .wires) [] .0 ∙ worked-write .2)) ∙ one 1 2 2 (bare .wires) [])
+      (sym (ap (λ (a : Written). done (a .outcome)) (meets (sized bare) (bare .wires) (replicate 12 0) .0 ∙ worked-write .0))
+      ∙ one (sized bare) (bare .wires) (replicate 12 0))
+      (sym (ap (λ (a : Written). done (a .outcome)) (meets (sized bare) (bare .wires) [] .0 ∙ worked-write .2)) ∙ one (sized bare) (bare .wires) [])
 
   -- it invents its length
-  pub write-count : f 1 2 2 (bare .wires) (replicate 12 0) .len ≡ 12
-  write-count = ap (λ (a : Written). a .len) (meets 1 2 2 (bare .wires) (replicate 12 0) .0 ∙ worked-write .0)
+  pub write-count : f (sized bare) (bare .wires) (replicate 12 0) .len ≡ 12
+  write-count = ap (λ (a : Written). a .len) (meets (sized bare) (bare .wires) (replicate 12 0) .0 ∙ worked-write .0)
 
   -- it says done, and writes nothing
-  pub write-nothing : after 1 2 2 (bare .wires) (replicate 12 0) ≡ replicate 12 0 → ⊥
+  pub write-nothing : after (sized bare) (bare .wires) (replicate 12 0) ≡ replicate 12 0 → ⊥
   unfolding bytes
-  write-nothing e = omega (arith, ap (λ (xs : List ℕ). getD xs 0 0) (sym e ∙ meets 1 2 2 (bare .wires) (replicate 12 0) .1 ∙ worked-write .1))
+  write-nothing e = omega (arith, ap (λ (xs : List ℕ). getD xs 0 0) (sym e ∙ meets (sized bare) (bare .wires) (replicate 12 0) .1 ∙ worked-write .1))
 
-abbrev pub Runs : (ℕ → ℕ → ℕ → List Wire → ℕ → ℕ → ℕ → List ℕ → Ran) → (ℕ → ℕ → ℕ → List Wire → ℕ → ℕ → ℕ → List ℕ → List ℕ) → Type 0
-Runs f after = (s d n : ℕ) (list : List Wire) (shares randoms publics : ℕ) (buf : List ℕ)
-    → (f s d n list shares randoms publics buf ≡ lentRan s d n list shares randoms publics buf) × (after s d n list shares randoms publics buf ≡ lentRanInto s d n list shares randoms publics buf)
+abbrev pub RunsAll : (Shape → List Wire → ℕ → ℕ → ℕ → List ℕ → Ran) → (Shape → List Wire → ℕ → ℕ → ℕ → List ℕ → List ℕ) → Type 0
+RunsAll f after = (σ : Shape) (list : List Wire) (shares randoms publics : ℕ) (buf : List ℕ)
+    → (f σ list shares randoms publics buf ≡ lentRan σ list shares randoms publics buf)
+    × (after σ list shares randoms publics buf ≡ lentRanInto σ list shares randoms publics buf)
 
-module _ (f : ℕ → ℕ → ℕ → List Wire → ℕ → ℕ → ℕ → List ℕ → Ran) (after : ℕ → ℕ → ℕ → List Wire → ℕ → ℕ → ℕ → List ℕ → List ℕ) (meets : Runs f after) where
+module _ (f : Shape → List Wire → ℕ → ℕ → ℕ → List ℕ → Ran) (after : Shape → List Wire → ℕ → ℕ → ℕ → List ℕ → List ℕ) (meets : RunsAll f after) where
   -- it refuses everything, or nothing
-  pub run-not-one : (k : ℕ) → ((s d n : ℕ) (list : List Wire) (shares randoms publics : ℕ) (buf : List ℕ) → done (f s d n list shares randoms publics buf .outcome) ≡ k) → ⊥
+  pub run-not-one : (k : ℕ) → ((σ : Shape) (list : List Wire) (shares randoms publics : ℕ) (buf : List ℕ)
+      → done (f σ list shares randoms publics buf .outcome) ≡ k) → ⊥
   run-not-one k one = apart
-      (sym (ap (λ (a : Ran). done (a .outcome)) (meets 1 2 2 (bare .wires) 1 0 0 (9 ∷ 9 ∷ 9 ∷ []) .0 ∙ worked-run .0)) ∙ one 1 2 2 (bare .wires) 1 0 0 (9 ∷ 9 ∷ 9 ∷ []))
-      (sym (ap (λ (a : Ran). done (a .outcome)) (meets 1 2 2 (bare .wires) 1 0 0 [] .0 ∙ worked-run .2)) ∙ one 1 2 2 (bare .wires) 1 0 0 [])
+      (sym (ap (λ (a : Ran). done (a .outcome)) (meets (sized bare) (bare .wires) 1 0 0 (9 ∷ 9 ∷ 9 ∷ []) .0 ∙ worked-run .0))
+      ∙ one (sized bare) (bare .wires) 1 0 0 (9 ∷ 9 ∷ 9 ∷ []))
+      (sym (ap (λ (a : Ran). done (a .outcome)) (meets (sized bare) (bare .wires) 1 0 0 [] .0 ∙ worked-run .2)) ∙ one (sized bare) (bare .wires) 1 0 0 [])
 
   -- it invents its length
-  pub run-count : f 1 2 2 (bare .wires) 1 0 0 (9 ∷ 9 ∷ 9 ∷ []) .len ≡ 2
-  run-count = ap (λ (a : Ran). a .len) (meets 1 2 2 (bare .wires) 1 0 0 (9 ∷ 9 ∷ 9 ∷ []) .0 ∙ worked-run .0)
+  pub run-count : f (sized bare) (bare .wires) 1 0 0 (9 ∷ 9 ∷ 9 ∷ []) .len ≡ 2
+  run-count = ap (λ (a : Ran). a .len) (meets (sized bare) (bare .wires) 1 0 0 (9 ∷ 9 ∷ 9 ∷ []) .0 ∙ worked-run .0)
 
   -- it writes 0 for each wire, or writes on behind the last
-  pub run-values : after 1 2 2 (bare .wires) 1 0 0 (9 ∷ 9 ∷ 9 ∷ []) ≡ 1 ∷ 0 ∷ 9 ∷ []
-  run-values = meets 1 2 2 (bare .wires) 1 0 0 (9 ∷ 9 ∷ 9 ∷ []) .1 ∙ worked-run .1
+  pub run-values : after (sized bare) (bare .wires) 1 0 0 (9 ∷ 9 ∷ 9 ∷ []) ≡ 1 ∷ 0 ∷ 9 ∷ []
+  run-values = meets (sized bare) (bare .wires) 1 0 0 (9 ∷ 9 ∷ 9 ∷ []) .1 ∙ worked-run .1

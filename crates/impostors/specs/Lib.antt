@@ -1,3 +1,3 @@
--- The document's impostors against the contracts of the calls over a lent list: worked answers, and the theorems.
-pub mod Worked
+-- None of the impostors meets a contract; the answers that show it are worked in Laws/.
 pub mod Impostors
+pub mod Laws

@@ -3,7 +3,7 @@ ghost use mathlib.Core.Path.{_≡_};
 ghost use Prim.Native.Nat.{_+_, _^_, _<_};
 ghost use lib.ListN.{length};
 ghost use lib.Signed.{mag};
-ghost use Rattle.intake.specs.Intake.{afterRead, Ended};
+ghost use Rattle.intake.specs.Intake.{afterRead, InputEnded};
 
 // Where an input stands after a read: n bytes are there and more may come, those n are all of it, or the read failed.
 pub enum Stand {
@@ -41,7 +41,7 @@ fn stand_after(done: usize, answer: isize) -> Stand
 
 // Reads until the input ends or the buffer is full. A read that fails makes a failed input of it, whatever came before.
 pub fn read_whole(fd: i32, buf: &mut [u8]) -> Intake
-    ensures { λ r. ⌜ Ended (r .input) (r .done) (r .last) (length (now (buf .exit))) ⌝ }
+    ensures { λ r. ⌜ InputEnded (r .input) (r .done) (r .last) (length (now (buf .exit))) ⌝ }
 {
     let mut done = 0;
     let mut last = 0;

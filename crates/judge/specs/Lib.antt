@@ -1,7 +1,3 @@
--- The search for the first open set by growing sets one wire at a time.
+-- What a search of sets in order goes by and finds, and the laws about it.
 pub mod Search
-pub mod Growing
-pub mod Turns
-pub mod Sizes
-pub mod Leaf
-pub mod Skipping
+pub mod Laws

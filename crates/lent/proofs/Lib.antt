@@ -1,3 +1,4 @@
--- Laws of what is read, and the words that the walks of this crate share.
-pub mod ReadLaws
+-- What the walks of this crate share.
 pub mod CallFirst
+pub mod Passed
+pub mod OverList

@@ -1,4 +1,2 @@
--- What the calls over a lent list promise, and that each promise has one answer.
-pub mod Same
-pub mod ReadInto
-pub mod Once
+-- What is proved of the calls over a lent list; what they promise stands in `document`.
+pub mod Laws

@@ -1,4 +1,4 @@
--- A line from its fields one after the other, as the code takes them; proofs/Laws.antt shows that it is the document's `ofFields`.
+-- A line from its fields one after the other, as the code takes them; proofs/Laws.antt shows that it is the specification's `ofFields`.
 use mathlib.Core.List.{List, [], _∷_}
 use Prim.Native.Nat.{ℕ}
 use Rattle.document.specs.Lines.{number, of1, of2, of3}

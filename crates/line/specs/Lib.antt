@@ -1,3 +1,2 @@
--- What the functions of this crate say of each other: the parts of a list, and a line field by field.
-pub mod Parts
+-- What the functions of this crate say of each other: a line field by field.
 pub mod Fields

@@ -1,3 +1,4 @@
--- The printed lines in the order of the code, and how long they can be.
-pub mod Digits
+-- The printed lines field by field, how long they can be, and their laws.
 pub mod Fields
+pub mod Rooms
+pub mod Laws

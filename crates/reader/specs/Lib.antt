@@ -1,4 +1,2 @@
--- What the functions of this crate ask of each other, that reading has one answer, and worked texts.
-pub mod Sound
-pub mod Once
-pub mod TextExamples
+-- What is proved of reading: no contract of this crate needs a definition of its own.
+pub mod Laws

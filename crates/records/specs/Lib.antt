@@ -1,5 +1,3 @@
--- What the test of refusal 11 finds out, record by record, and what its callers may take from a passed test.
+-- What the test of refusal 11 finds out, record by record, and what a passed test says; and their laws.
 pub mod Records
 pub mod Laws
-pub mod Fit
-pub mod Once

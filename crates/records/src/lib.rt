@@ -1,11 +1,13 @@
 // The test behind refusal 11: whether S, D, n and the first n records are what a read could have given.
 use document::Kind;
+use document::Listing;
+use document::Shape;
 use document::Wire;
 ghost use mathlib.Core.Path.{_≡_};
 ghost use mathlib.Core.Bool.{true, false};
 ghost use Prim.Native.Nat.{_+_, _*_, _≤_, _<_};
 ghost use Rattle.document.specs.Basics.{one, all};
-ghost use Rattle.document.specs.Routine.{isRand, isPub, inRange, recordsFit};
+ghost use Rattle.document.specs.Routine.{isRand, isPub, recordsFit};
 ghost use Rattle.records.specs.Records.{recordAt, countsOf, withRecord, Room, ceilingsMet, Ranged, fitsAt};
 
 // How many of the first records are randoms, publics and outputs.
@@ -86,14 +88,8 @@ fn ceilings_met(c: Counts) -> bool
     (c.rands <= 64) & (c.pubs <= 16) & (c.outs <= 64)
 }
 
-fn in_range(s: usize, d: usize) -> bool
-    ensures { λ r. ⌜ r ≡ inRange s d ⌝ }
-{
-    (1 <= s) & (s <= 8) & (2 <= d) & (d <= 8)
-}
-
 // The record x is one that wire w of a routine of S and D could have.
-pub fn record_fits(s: usize, d: usize, w: usize, x: Wire) -> bool
+fn record_fits(s: usize, d: usize, w: usize, x: Wire) -> bool
     requires { ⌜ Ranged s d ⌝ }
     ensures { λ r. ⌜ r ≡ fitsAt s d w x ⌝ }
 {
@@ -112,14 +108,15 @@ pub fn record_fits(s: usize, d: usize, w: usize, x: Wire) -> bool
 }
 
 // Each of the first n records is one that its wire could have.
-fn all_fit(s: usize, d: usize, n: usize, ws: [Wire; 128]) -> bool
-    requires { ⌜ Ranged s d × (n ≤ 128) ⌝ }
-    ensures { λ r. ⌜ r ≡ all n (λ w. fitsAt s d w (recordAt ws w)) ⌝ }
+fn all_fit(listing: Listing) -> bool
+    requires { ⌜ Ranged (listing .shape .s) (listing .shape .d) × (listing .shape .n ≤ 128) ⌝ }
+    ensures { λ r. ⌜ r ≡ all (listing .shape .n) (λ w. fitsAt (listing .shape .s) (listing .shape .d) w (recordAt (listing .wires) w)) ⌝ }
 {
+    let Shape { s, d, n } = listing.shape;
     let mut good = true;
     let mut w = 0;
     while w < n {
-        let x = ws[w];
+        let x = listing.wires[w];
         let fits = record_fits(s, d, w, x);
         good = good & fits;
         w += 1;
@@ -128,21 +125,23 @@ fn all_fit(s: usize, d: usize, n: usize, ws: [Wire; 128]) -> bool
 }
 
 // S, D, n and the first n records are what a read could have given.
-pub fn records_fit(s: usize, d: usize, n: usize, ws: [Wire; 128]) -> bool
-    ensures { λ r. ⌜ r ≡ recordsFit s d n ws ⌝ }
+pub fn records_fit(listing: Listing) -> bool
+    ensures { λ r. ⌜ r ≡ recordsFit (listing .shape) (listing .wires) ⌝ }
 {
+    let Shape { s, d, n } = listing.shape;
     if 128 < n {
         return false;
     }
-    if !in_range(s, d) {
+    if !document::in_range(s, d) {
         return false;
     }
     if n < s * d {
         return false;
     }
+    let ws = listing.wires;
     let counts = count_records(n, ws);
     if !ceilings_met(counts) {
         return false;
     }
-    all_fit(s, d, n, ws)
+    all_fit(listing)
 }

@@ -1,13 +1,4 @@
--- Reading and writing undo each other: laws of tests, forms, cuts and line texts; what a read line does; the theorems.
-pub mod Tests
-pub mod Forms
-pub mod Cuts
-pub mod LineTexts
-pub mod Formed
-pub mod Growing
-pub mod States
-pub mod Shares
-pub mod Read
-pub mod Written
-pub mod Records
+-- Reading and writing undo each other: the words of the theorems, what is proved on the way, and the theorems.
+pub mod Texts
+pub mod Laws
 pub mod TextTheorems

@@ -1,5 +1,5 @@
--- What the run of the rule to its end follows, its laws, and the answers of the two calls on one set.
+-- What the run of the rule to its end follows, and the two calls on one set; and the laws about them.
 pub mod Run
 pub mod Words
 pub mod Calls
-pub mod Answers
+pub mod Laws

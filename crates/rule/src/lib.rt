@@ -1,9 +1,11 @@
 // The padding rule run to its end for a set of observed wires, and the two calls on one probe set.
+use document::Listing;
 use document::Needed;
 use document::Outcome;
 use document::Padded;
 use document::ProbeSet;
 use document::Refusal;
+use document::Shape;
 use document::Step;
 use document::Wire;
 use step::Next;
@@ -12,20 +14,28 @@ ghost use Prim.Native.Nat.{_+_, _*_, _^_, _≤_, _<_};
 ghost use lib.Dec.{ltb};
 ghost use lib.ListN.{take, replicate};
 ghost use Rattle.document.specs.Basics.{one, at, each};
-ghost use Rattle.document.specs.Routine.{routineOf};
+ghost use Rattle.document.specs.Reading.{routineIn};
 ghost use Rattle.document.specs.Padding.{live, word};
 ghost use Rattle.document.specs.Judgements.{noStep, neededNot, paddedNot};
 ghost use Rattle.document.specs.Lent.{lentNeeding, lentPadding};
 ghost use Rattle.step.specs.Passes.{wired, Wired};
 ghost use Rattle.rule.specs.Run.{noted, runOf, neededBy};
 ghost use Rattle.rule.specs.Words.{Shares, onesOf, someOver};
-ghost use Rattle.rule.specs.Calls.{orderIn, probesIn};
+ghost use Rattle.rule.specs.Calls.{orderIn, probesIn, Accepted, checked, observedOf};
 
 // A run of the rule so far: the leaves, and the steps noted.
 pub struct Run {
     pub leaf: [bool; 128],
     pub steps: [Step; 128],
     pub len: usize,
+}
+
+// What one set comes to: the steps of its run, its needed shares, and whether it is plain-open at the order.
+pub struct Observed {
+    pub steps: [Step; 128],
+    pub len: usize,
+    pub shares: u64,
+    pub undecided: bool,
 }
 
 fn no_step() -> Step
@@ -65,7 +75,7 @@ fn note_step(run: Run, step: Step) -> Run
 }
 
 // The run of the rule to its end; no run has more steps than there are wires.
-pub fn run_to_end(n: usize, ws: [Wire; 128], probe: [bool; 128]) -> Run
+fn run_to_end(n: usize, ws: [Wire; 128], probe: [bool; 128]) -> Run
     requires { ⌜ Wired n ws ⌝ }
     ensures { λ r. ⌜ r ≡ runOf (wired n ws) probe ⌝ }
 {
@@ -93,7 +103,7 @@ fn bit_if(on: bool, k: usize) -> u64
 }
 
 // Bit k for each live wire k below m.
-pub fn share_word(m: usize, alive: [bool; 128]) -> u64
+fn share_word(alive: [bool; 128], m: usize) -> u64
     requires { ⌜ m ≤ 64 ⌝ }
     ensures { λ r. ⌜ r ≡ word m (at alive) ⌝ }
 {
@@ -109,33 +119,29 @@ pub fn share_word(m: usize, alive: [bool; 128]) -> u64
 }
 
 // The input shares live once these leaves are the last.
-pub fn live_shares(
-    s: usize,
-    d: usize,
-    n: usize,
-    ws: [Wire; 128],
-    probe: [bool; 128],
-    leaf: [bool; 128],
-) -> u64
-    requires { ⌜ Wired n ws × Shares s d ⌝ }
-    ensures { λ r. ⌜ r ≡ word (s * d) (at (live (wired n ws) probe leaf)) ⌝ }
+fn live_shares(listing: Listing, probe: [bool; 128], leaf: [bool; 128]) -> u64
+    requires { ⌜ Wired (listing .shape .n) (listing .wires) × Shares (listing .shape .s) (listing .shape .d) ⌝ }
+    ensures { λ r. ⌜ r ≡ word (listing .shape .s * listing .shape .d) (at (live (wired (listing .shape .n) (listing .wires)) probe leaf)) ⌝ }
 {
+    let Shape { s, d, n } = listing.shape;
+    let ws = listing.wires;
     let alive = step::live_marks(n, ws, probe, leaf);
-    share_word(s * d, alive)
+    share_word(alive, s * d)
 }
 
 // The needed shares of the observed wires, which are marked.
-pub fn needed_word(s: usize, d: usize, n: usize, ws: [Wire; 128], probe: [bool; 128]) -> u64
-    requires { ⌜ Wired n ws × Shares s d ⌝ }
-    ensures { λ r. ⌜ r ≡ neededBy (routineOf s d n ws) probe ⌝ }
+pub fn needed_word(listing: Listing, probe: [bool; 128]) -> u64
+    requires { ⌜ Wired (listing .shape .n) (listing .wires) × Shares (listing .shape .s) (listing .shape .d) ⌝ }
+    ensures { λ r. ⌜ r ≡ neededBy (routineIn listing) probe ⌝ }
 {
-    let run = run_to_end(n, ws, probe);
+    let ws = listing.wires;
+    let run = run_to_end(listing.shape.n, ws, probe);
     let leaf = run.leaf;
-    live_shares(s, d, n, ws, probe, leaf)
+    live_shares(listing, probe, leaf)
 }
 
 // How many shares of secret i are in the word.
-pub fn count_of(d: usize, i: usize, shares: u64) -> u32
+fn count_of(d: usize, i: usize, shares: u64) -> u32
     requires { ⌜ (1 ≤ d) × (d ≤ 8) × (i * d + d ≤ 64) ⌝ }
     ensures { λ r. ⌜ r ≡ onesOf d i shares ⌝ }
 {
@@ -181,7 +187,7 @@ fn all_named(places: [u8; 4], len: usize, n: usize) -> bool
 }
 
 // The set is not empty, no larger than the order, ascending, and names wires only.
-fn probes_fit(n: usize, t: usize, set: ProbeSet) -> bool
+fn probes_fit(set: ProbeSet, n: usize, t: usize) -> bool
     requires { ⌜ t ≤ 4 ⌝ }
     ensures { λ r. ⌜ r ≡ probesIn n t set ⌝ }
 {
@@ -199,6 +205,44 @@ fn probes_fit(n: usize, t: usize, set: ProbeSet) -> bool
     all_named(places, len, n)
 }
 
+// The tests of a call on one set, in their order: the first refusal, or none.
+fn check_set(listing: Listing, t: usize, set: ProbeSet) -> Outcome
+    ensures { λ r. ⌜ r ≡ checked (listing .shape) (listing .wires) t set ⌝ }
+{
+    if !records::records_fit(listing) {
+        return Outcome::Refused(Refusal::Records);
+    }
+    if !order_fits(listing.shape.d, t) {
+        return Outcome::Refused(Refusal::Order);
+    }
+    if !probes_fit(set, listing.shape.n, t) {
+        return Outcome::Refused(Refusal::Probes);
+    }
+    Outcome::Done
+}
+
+// The run of a set to its end, and what it comes to at the order; the list of steps has room for every run.
+fn observe(listing: Listing, t: usize, set: ProbeSet) -> Observed
+    requires { ⌜ Accepted (listing .shape) (listing .wires) t set ⌝ }
+    ensures { λ r. ⌜ r ≡ observedOf (routineIn listing) t set ⌝ }
+{
+    let Shape { s, d, n } = listing.shape;
+    let ws = listing.wires;
+    let probe = step::probe_marks(set);
+    let run = run_to_end(n, ws, probe);
+    let leaf = run.leaf;
+    let shares = live_shares(listing, probe, leaf);
+    let undecided = over(s, d, shares, t);
+    let steps = run.steps;
+    let len = run.len;
+    Observed {
+        steps,
+        len,
+        shares,
+        undecided,
+    }
+}
+
 fn needed_not(refusal: Refusal) -> Needed
     ensures { λ r. ⌜ r ≡ neededNot refusal ⌝ }
 {
@@ -210,25 +254,20 @@ fn needed_not(refusal: Refusal) -> Needed
 }
 
 // The needed shares of one set, and whether it is plain-open at the order.
-pub fn needs(s: usize, d: usize, n: usize, ws: [Wire; 128], t: usize, set: ProbeSet) -> Needed
-    ensures { λ r. ⌜ r ≡ lentNeeding s d n ws t set ⌝ }
+pub fn needs(listing: Listing, t: usize, set: ProbeSet) -> Needed
+    ensures { λ r. ⌜ r ≡ lentNeeding (listing .shape) (listing .wires) t set ⌝ }
 {
-    if !records::records_fit(s, d, n, ws) {
-        return needed_not(Refusal::Records);
-    }
-    if !order_fits(d, t) {
-        return needed_not(Refusal::Order);
-    }
-    if !probes_fit(n, t, set) {
-        return needed_not(Refusal::Probes);
-    }
-    let probe = step::probe_marks(set);
-    let shares = needed_word(s, d, n, ws, probe);
-    let undecided = over(s, d, shares, t);
-    Needed {
-        outcome: Outcome::Done,
-        shares,
-        undecided,
+    let outcome = check_set(listing, t, set);
+    match outcome {
+        Outcome::Refused(refusal) => needed_not(refusal),
+        Outcome::Done => {
+            let seen = observe(listing, t, set);
+            Needed {
+                outcome: Outcome::Done,
+                shares: seen.shares,
+                undecided: seen.undecided,
+            }
+        }
     }
 }
 
@@ -244,30 +283,22 @@ fn padded_not(refusal: Refusal) -> Padded
     }
 }
 
-// The steps of one set, and whether it is plain-open at the order; the list has room for every run.
-pub fn pads(s: usize, d: usize, n: usize, ws: [Wire; 128], t: usize, set: ProbeSet) -> Padded
-    ensures { λ r. ⌜ r ≡ lentPadding s d n ws t set ⌝ }
+// The steps of one set, and whether it is plain-open at the order.
+pub fn pads(listing: Listing, t: usize, set: ProbeSet) -> Padded
+    ensures { λ r. ⌜ r ≡ lentPadding (listing .shape) (listing .wires) t set ⌝ }
 {
-    if !records::records_fit(s, d, n, ws) {
-        return padded_not(Refusal::Records);
-    }
-    if !order_fits(d, t) {
-        return padded_not(Refusal::Order);
-    }
-    if !probes_fit(n, t, set) {
-        return padded_not(Refusal::Probes);
-    }
-    let probe = step::probe_marks(set);
-    let run = run_to_end(n, ws, probe);
-    let leaf = run.leaf;
-    let shares = live_shares(s, d, n, ws, probe, leaf);
-    let undecided = over(s, d, shares, t);
-    let steps = run.steps;
-    let len = run.len;
-    Padded {
-        outcome: Outcome::Done,
-        steps,
-        len,
-        undecided,
+    let outcome = check_set(listing, t, set);
+    match outcome {
+        Outcome::Refused(refusal) => padded_not(refusal),
+        Outcome::Done => {
+            let seen = observe(listing, t, set);
+            let steps = seen.steps;
+            Padded {
+                outcome: Outcome::Done,
+                steps,
+                len: seen.len,
+                undecided: seen.undecided,
+            }
+        }
     }
 }

@@ -1,3 +1,3 @@
--- What a run answers and leaves in the lent buffer, and that this determines both.
+-- The parts of a run, and their laws.
 pub mod Run
 pub mod Laws

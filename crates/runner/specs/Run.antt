@@ -1,40 +1,33 @@
--- What a run of S, D, n and a list of records promises: its answer and the buffer after it; and the parts of a run.
-use mathlib.Core.Path.{_≡_, sym, _∙_}
+-- The parts of a run: the values wire by wire, the test of 14 from the counts, and a refusal.
 use mathlib.Core.Bool.{Bool, _&&_}
 use mathlib.Core.List.{List}
 use Prim.Native.Nat.{ℕ, _^_, _≤_}
 use lib.Dec.{ltb}
 use lib.ListN.{getD, take}
-use Rattle.document.specs.Running.{bit, gives}
-use Rattle.document.specs.Lent.{lentRan, lentRanInto}
+use Rattle.document.specs.Routine.{routineOf}
+use Rattle.document.specs.Running.{bit, gives, bits, firstValues}
 use Rattle.document.specs.declared.Outcome.the-variants.{Refused}
 use Rattle.document.specs.declared.Ran.{Ran}
 use Rattle.document.specs.declared.Refusal.{Refusal}
+use Rattle.document.specs.declared.Shape.{Shape}
 use Rattle.document.specs.declared.Wire.{Wire}
 use Rattle.records.specs.declared.Counts.{Counts}
 
--- "A refusal gives 0 for .. lengths"
-abbrev pub refused : Refusal → Ran
-refused f = record { outcome = Refused f; len = 0 }
-
--- what a run promises of its answer r and of the buffer after it
-pub record Answered (s d n : ℕ) (ws : List Wire) (shares randoms publics : ℕ) (buffer : List ℕ) (r : Ran) (after : List ℕ) : Type 0 where
-  pub said : r ≡ lentRan s d n ws shares randoms publics buffer
-  pub left : after ≡ lentRanInto s d n ws shares randoms publics buffer
-
--- two answers that the promise allows are equal, and so are the buffers
-pub once :
-    {s d n : ℕ} {ws : List Wire} {shares randoms publics : ℕ} {buffer : List ℕ} {q r : Ran} {before after : List ℕ}
-    → Answered s d n ws shares randoms publics buffer q before
-    → Answered s d n ws shares randoms publics buffer r after
-    → (q ≡ r) × (before ≡ after)
-once p t = (p .said ∙ sym (t .said), p .left ∙ sym (t .left))
-
--- ---- the parts of a run
+-- a refused run wrote nothing
+abbrev pub ranNot : Refusal → Ran
+ranNot f = record { outcome = Refused f; len = 0 }
 
 -- the value of wire w of record x, where the values of the wires before it stand in the buffer
 abbrev pub valueFrom : List ℕ → ℕ → Wire → ℕ → ℕ → ℕ → ℕ
 valueFrom buffer w x share random public = gives bit (x .kind) share random public (getD (take w buffer) (x .a) 0) (getD (take w buffer) (x .b) 0)
+
+-- n wires of any S and D, on which no value depends
+abbrev pub unsized : ℕ → Shape
+unsized n = record { s = 0; d = 0; n = n }
+
+-- the values of the first k wires
+unfoldable pub values : ℕ → List Wire → ℕ → ℕ → ℕ → ℕ → List ℕ
+values n ws shares randoms publics k = firstValues bit (routineOf (unsized n) ws) (bits 64 shares) (bits 64 randoms) (bits 64 publics) k
 
 -- counts that a word has bits for
 pub record SmallCounts (first : ℕ) (c : Counts) : Type 0 where

@@ -1,8 +1,10 @@
 // Running a routine: 0 or 1 for each of its wires, written into a lent buffer.
 use document::Kind;
+use document::Listing;
 use document::Outcome;
 use document::Ran;
 use document::Refusal;
+use document::Shape;
 use document::Wire;
 use records::Counts;
 ghost use mathlib.Core.Path.{_≡_};
@@ -11,8 +13,8 @@ ghost use Prim.Native.Nat.{_-_, _^_, _≤_, _<_};
 ghost use lib.Dec.{ltb};
 ghost use lib.ListN.{length, getD, take, drop, set};
 ghost use Rattle.document.specs.Running.{bit, gives, bits};
-ghost use Rattle.runner.specs.Laws.{values};
-ghost use Rattle.runner.specs.Run.{Answered, refused, valueFrom, SmallCounts, wordsFit};
+ghost use Rattle.document.specs.Lent.{RunsInto};
+ghost use Rattle.runner.specs.Run.{ranNot, valueFrom, values, SmallCounts, wordsFit};
 
 // Bit k of the word; beyond its 64 bits it has none set.
 fn bit_at(word: u64, k: usize) -> u8
@@ -26,6 +28,7 @@ fn bit_at(word: u64, k: usize) -> u8
     }
 }
 
+// The other bit.
 fn turned(v: u8) -> u8
     ensures { λ r. ⌜ r ≡ 1 - v ⌝ }
 {
@@ -47,7 +50,7 @@ fn value_of(k: Kind, share: u8, random: u8, public: u8, a: u8, b: u8) -> u8
 }
 
 // The value of wire u, if it is one of the w wires that have theirs.
-fn earlier(buf: &[u8], w: usize, u: usize) -> u8
+fn earlier_value(buf: &[u8], w: usize, u: usize) -> u8
     requires { ⌜ w ≤ length (now buf) ⌝ }
     ensures { λ r. ⌜ r ≡ getD (take w (now (buf .entry))) u 0 ⌝ }
 {
@@ -59,8 +62,8 @@ fn put_value(w: usize, x: Wire, share: u8, random: u8, public: u8, buf: &mut [u8
     requires { ⌜ w < length (now buf) ⌝ }
     ensures { λ _. ⌜ now (buf .exit) ≡ set (now (buf .entry)) w (valueFrom (now (buf .entry)) w x share random public) ⌝ }
 {
-    let a = earlier(buf, w, x.a as usize);
-    let b = earlier(buf, w, x.b as usize);
+    let a = earlier_value(buf, w, x.a as usize);
+    let b = earlier_value(buf, w, x.b as usize);
     let k = x.kind;
     buf[w] = value_of(k, share, random, public, a, b);
 }
@@ -87,8 +90,9 @@ fn words_fit(first: usize, c: Counts, shares: u64, randoms: u64, publics: u64) -
     word_fits(shares, first) & word_fits(randoms, c.rands) & word_fits(publics, c.pubs)
 }
 
-fn refusal(f: Refusal) -> Ran
-    ensures { λ r. ⌜ r ≡ refused f ⌝ }
+// A refused run wrote nothing.
+fn not_run(f: Refusal) -> Ran
+    ensures { λ r. ⌜ r ≡ ranNot f ⌝ }
 {
     Ran {
         outcome: Outcome::Refused(f),
@@ -123,28 +127,21 @@ fn put_values(n: usize, ws: [Wire; 128], shares: u64, randoms: u64, publics: u64
     }
 }
 
-// Runs the routine of S, D, n and the first n records.
-pub fn run(
-    s: usize,
-    d: usize,
-    n: usize,
-    ws: [Wire; 128],
-    shares: u64,
-    randoms: u64,
-    publics: u64,
-    buf: &mut [u8],
-) -> Ran
-    ensures { λ r. ⌜ Answered s d n ws shares randoms publics (now (buf .entry)) r (now (buf .exit)) ⌝ }
+// Runs a routine.
+pub fn run(listing: Listing, shares: u64, randoms: u64, publics: u64, buf: &mut [u8]) -> Ran
+    ensures { λ r. ⌜ RunsInto (listing .shape) (listing .wires) shares randoms publics (now (buf .entry)) r (now (buf .exit)) ⌝ }
 {
-    if !records::records_fit(s, d, n, ws) {
-        return refusal(Refusal::Records);
+    if !records::records_fit(listing) {
+        return not_run(Refusal::Records);
     }
+    let Shape { s, d, n } = listing.shape;
+    let ws = listing.wires;
     let counts = records::count_records(n, ws);
     if !words_fit(s * d, counts, shares, randoms, publics) {
-        return refusal(Refusal::Bits);
+        return not_run(Refusal::Bits);
     }
     if buf.len() < n {
-        return refusal(Refusal::Buffer);
+        return not_run(Refusal::Buffer);
     }
     put_values(n, ws, shares, randoms, publics, buf);
     Ran {

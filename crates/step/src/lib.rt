@@ -6,16 +6,16 @@ use document::Wire;
 ghost use mathlib.Core.Path.{_≡_};
 ghost use mathlib.Core.Bool.{true, cond};
 ghost use mathlib.Core.Option.{none};
-ghost use Prim.Native.Nat.{_<_, min, max};
+ghost use Prim.Native.Nat.{_<_, max};
 ghost use lib.ListN.{getD, set};
 ghost use Rattle.document.specs.Basics.{mark};
-ghost use Rattle.document.specs.Routine.{isRand};
+ghost use Rattle.document.specs.Routine.{isRand, operandsOf};
 ghost use Rattle.document.specs.ProbeSets.{held};
-ghost use Rattle.document.specs.Padding.{probed, operandsOf, firstLeaves, live, padsOf, padsBy, firstPad, lowestPad, nextStep};
+ghost use Rattle.document.specs.Padding.{probed, firstLeaves, live, padsOf, padsBy, firstPad, lowestPad, nextStep};
 ghost use Rattle.document.specs.declared.Kind.the-variants.{Xor};
 ghost use Rattle.step.specs.Passes.{wired, Wired, Low, LowProbes};
 ghost use Rattle.step.specs.Consumers.{bumped, bumpedTwo, countedWith, Spare, Consumers};
-ghost use Rattle.step.specs.Next.{found, isXor, servesBy, SearchFits};
+ghost use Rattle.step.specs.Next.{stepIn, isXor, servesBy, SearchFits};
 
 // What a search for the next step found.
 pub enum Next {
@@ -77,7 +77,7 @@ pub fn probe_marks(set: ProbeSet) -> [bool; 128]
 }
 
 // The operands of a wire marked.
-fn mark_operands(x: Wire, m: [bool; 128]) -> [bool; 128]
+fn mark_operands(m: [bool; 128], x: Wire) -> [bool; 128]
     requires { ⌜ Low x ⌝ }
     ensures { λ r. ⌜ r ≡ mark (operandsOf (x .kind) (x .a) (x .b)) m ⌝ }
 {
@@ -117,7 +117,7 @@ pub fn live_marks(n: usize, ws: [Wire; 128], probe: [bool; 128], leaf: [bool; 12
         u -= 1;
         if m[u] && !leaf[u] {
             let x = ws[u];
-            let next = mark_operands(x, m);
+            let next = mark_operands(m, x);
             m = next;
         }
     }
@@ -147,7 +147,7 @@ fn count_two(counts: [u8; 128], a: usize, b: usize) -> [u8; 128]
 }
 
 // One more for each operand of a wire.
-fn count_operands(x: Wire, counts: [u8; 128]) -> [u8; 128]
+fn count_operands(counts: [u8; 128], x: Wire) -> [u8; 128]
     requires { ⌜ Low x × Spare counts ⌝ }
     ensures { λ r. ⌜ r ≡ countedWith (x .kind) (x .a) (x .b) counts ⌝ }
 {
@@ -165,12 +165,7 @@ fn count_operands(x: Wire, counts: [u8; 128]) -> [u8; 128]
 }
 
 // How many live consumers that are no leaves each wire has.
-pub fn consumer_counts(
-    n: usize,
-    ws: [Wire; 128],
-    leaf: [bool; 128],
-    alive: [bool; 128],
-) -> [u8; 128]
+fn consumer_counts(n: usize, ws: [Wire; 128], leaf: [bool; 128], alive: [bool; 128]) -> [u8; 128]
     requires { ⌜ Wired n ws ⌝ }
     ensures { λ r. ⌜ Consumers n ws leaf alive 0 r ⌝ }
 {
@@ -180,17 +175,11 @@ pub fn consumer_counts(
         u -= 1;
         if alive[u] && !leaf[u] {
             let x = ws[u];
-            let next = count_operands(x, counts);
+            let next = count_operands(counts, x);
             counts = next;
         }
     }
     counts
-}
-
-fn lower(a: usize, b: usize) -> usize
-    ensures { λ r. ⌜ r ≡ min a b ⌝ }
-{
-    if a < b { a } else { b }
 }
 
 fn higher(a: usize, b: usize) -> usize
@@ -217,12 +206,13 @@ fn pad_by_two(
     counts: [u8; 128],
 ) -> Next
     requires { ⌜ (w < 128) × (a < 128) × (b < 128) ⌝ }
-    ensures { λ r. ⌜ found r ≡ firstPad (servesBy probe leaf counts) w (padsOf Xor a b) none ⌝ }
+    ensures { λ r. ⌜ stepIn r ≡ firstPad (servesBy probe leaf counts) w (padsOf Xor a b) none ⌝ }
 {
     if a == b {
         return Next::End;
     }
-    let low = lower(a, b);
+    let low = document::lower(a, b);
+    let high = higher(a, b);
     if can_serve(low, probe, leaf, counts) {
         let step = Step {
             w: w as u8,
@@ -230,7 +220,6 @@ fn pad_by_two(
         };
         return Next::Pad(step);
     }
-    let high = higher(a, b);
     if can_serve(high, probe, leaf, counts) {
         let step = Step {
             w: w as u8,
@@ -257,7 +246,7 @@ fn is_xor(k: Kind) -> bool
 // The step of wire w, if its record and its operands allow one.
 fn pad_by(w: usize, x: Wire, probe: [bool; 128], leaf: [bool; 128], counts: [u8; 128]) -> Next
     requires { ⌜ (w < 128) × Low x ⌝ }
-    ensures { λ r. ⌜ found r ≡ firstPad (servesBy probe leaf counts) w (padsOf (x .kind) (x .a) (x .b)) none ⌝ }
+    ensures { λ r. ⌜ stepIn r ≡ firstPad (servesBy probe leaf counts) w (padsOf (x .kind) (x .a) (x .b)) none ⌝ }
 {
     let a = x.a as usize;
     let b = x.b as usize;
@@ -278,7 +267,7 @@ fn pad_if(
     counts: [u8; 128],
 ) -> Next
     requires { ⌜ (w < 128) × Low x ⌝ }
-    ensures { λ r. ⌜ found r ≡ cond inner (firstPad (servesBy probe leaf counts) w (padsOf (x .kind) (x .a) (x .b)) none) none ⌝ }
+    ensures { λ r. ⌜ stepIn r ≡ cond inner (firstPad (servesBy probe leaf counts) w (padsOf (x .kind) (x .a) (x .b)) none) none ⌝ }
 {
     if !inner {
         return Next::End;
@@ -296,7 +285,7 @@ fn lowest_pad(
     counts: [u8; 128],
 ) -> Next
     requires { ⌜ SearchFits n ws leaf alive counts ⌝ }
-    ensures { λ r. ⌜ found r ≡ lowestPad (wired n ws) (padsBy (wired n ws) probe leaf alive) n 0 ⌝ }
+    ensures { λ r. ⌜ stepIn r ≡ lowestPad (wired n ws) (padsBy (wired n ws) probe leaf alive) n 0 ⌝ }
 {
     let mut w = 0;
     while w < n {
@@ -314,7 +303,7 @@ fn lowest_pad(
 // The next step, from the live wires and the counts of consumers of this state.
 pub fn next_step(n: usize, ws: [Wire; 128], probe: [bool; 128], leaf: [bool; 128]) -> Next
     requires { ⌜ Wired n ws ⌝ }
-    ensures { λ r. ⌜ found r ≡ nextStep (wired n ws) probe leaf ⌝ }
+    ensures { λ r. ⌜ stepIn r ≡ nextStep (wired n ws) probe leaf ⌝ }
 {
     let alive = live_marks(n, ws, probe, leaf);
     let counts = consumer_counts(n, ws, leaf, alive);

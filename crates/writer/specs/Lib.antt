@@ -1,5 +1,3 @@
--- What a writing answers and leaves in the lent buffer, that this determines both, and the text in the order of the code.
-pub mod Write
-pub mod Numbers
+-- The text in the order of the code, and its laws.
 pub mod Parts
-pub mod Answers
+pub mod Laws

@@ -1,6 +1,6 @@
 -- `buffer::put_byte` meets its contract: one store.
 use borrow.Author.Needs.{needs}
-use Rattle.buffer.specs.Put.{put-one}
+use Rattle.buffer.specs.Laws.Puts.{put-one}
 use Rattle.buffer.proofs.put_byte.Statement.{statement}
 use Rattle.buffer.proofs.put_byte.Tie as tie
 

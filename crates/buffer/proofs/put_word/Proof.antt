@@ -6,15 +6,16 @@ use native.Mathlib.Omega.{arith}
 use borrow.Author.Needs.{needs}
 use lib.ListN.{length, take, length-set}
 use lib.Seq.{take-all}
-use Rattle.buffer.specs.Put.{Put, put-none, put-next}
+use Rattle.buffer.specs.Put.{Put}
+use Rattle.buffer.specs.Laws.Puts.{put-none, put-next}
 use Rattle.buffer.proofs.put_word.Statement.{statement}
 use Rattle.buffer.proofs.put_word.Tie as tie
 
 abbrev Inv-loop : tie.InvT-loop
-Inv-loop buf₀ at word j₀ o₀ buf j o = (j ≤ length word) × (o ≡ at + j) × (length buf ≡ length buf₀) × Put buf₀ at (take j word) o buf
+Inv-loop word at buf₀ j₀ o₀ buf j o = (j ≤ length word) × (o ≡ at + j) × (length buf ≡ length buf₀) × Put buf₀ at (take j word) o buf
 
 abbrev μ-loop : tie.MeasureT-loop
-μ-loop buf₀ at word j₀ o₀ buf j o = length word - j
+μ-loop word at buf₀ j₀ o₀ buf j o = length word - j
 
 loop-holds : tie.Need-loop-holds Inv-loop μ-loop
 loop-holds c = (search needs, search needs, refl, put-none _ _)
@@ -37,7 +38,8 @@ loop-less c = search needs
 loop-again : tie.Need-loop-again Inv-loop μ-loop
 loop-again c = let i = c .before .before .loop in
     let a = c .before .before .before .args in
-    (omega arith, omega arith, simp length-set (i .inv .2), put-next (a .word .now) (a .buf .now) (i .buf) (a .at) (i .j) (i .o) (omega arith) (i .inv .3))
+    let more = put-next (a .word .now) (a .buf .now) (i .buf) (a .at) (i .j) (i .o) (omega arith) (i .inv .3) in
+    (omega arith, omega arith, simp length-set (i .inv .2), more)
 
 same-length : tie.Need-same-length Inv-loop μ-loop
 same-length c = search needs

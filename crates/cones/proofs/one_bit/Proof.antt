@@ -1,6 +1,6 @@
 -- `cones::one_bit` meets its contract: a shift of 1 that stays in the word.
 use borrow.Author.Needs.{needs}
-use Rattle.cones.specs.Bits.{one-shifted}
+use Rattle.cones.specs.Laws.Bits.{one-shifted}
 use Rattle.cones.proofs.one_bit.Statement.{statement}
 use Rattle.cones.proofs.one_bit.Tie as tie
 

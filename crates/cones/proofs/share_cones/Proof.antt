@@ -4,45 +4,45 @@ use Prim.Native.Nat.{ℕ, _-_, _≤_}
 use native.Mathlib.Omega.{arith}
 use borrow.Author.Needs.{needs}
 use lib.ListN.{length, take, length-set}
-use Rattle.cones.specs.Making.{inside, no-shares, share-bit, share-turn}
+use Rattle.cones.specs.Laws.Making.{inside, no-shares, share-bit, share-turn}
 use Rattle.cones.specs.Tables.{shareCones}
-use Rattle.document.specs.Routine.{routineOf}
-use Rattle.records.specs.Fit.{fit-of}
+use Rattle.document.specs.Reading.{routineIn}
+use Rattle.records.specs.Laws.Fitting.{fit-of}
 use Rattle.cones.proofs.share_cones.Statement.{statement}
 use Rattle.cones.proofs.share_cones.Tie as tie
 
 abbrev Inv-loop : tie.InvT-loop
-Inv-loop s d n ws shares words₀ w₀ words w = (w ≤ n) × (take w words ≡ shareCones (routineOf s d n ws) w) × (length words ≡ 128)
+Inv-loop listing s d n shares words₀ w₀ words w = (w ≤ listing .shape .n) × (take w words ≡ shareCones (routineIn listing) w) × (length words ≡ 128)
 
 abbrev μ-loop : tie.MeasureT-loop
-μ-loop s d n ws shares words₀ w₀ words w = n - w
+μ-loop listing s d n shares words₀ w₀ words w = listing .shape .n - w
 
 mul-shares : tie.Need-mul-shares Inv-loop μ-loop
-mul-shares c = omega (arith, fit-of _ _ _ _ (c .pre) .range .shares-few)
+mul-shares c = omega (arith, fit-of _ _ (c .pre) .range .shares-few)
 
 loop-holds : tie.Need-loop-holds Inv-loop μ-loop
 loop-holds c = (search needs, no-shares _, refl)
 
 mul-x : tie.Need-mul-x Inv-loop μ-loop
-mul-x c = omega (arith, fit-of _ _ _ _ (c .before .before .pre) .few)
+mul-x c = omega (arith, fit-of _ _ (c .before .before .pre) .few)
 
-array-copy-out-x : tie.Need-array-copy-out-x Inv-loop μ-loop
-array-copy-out-x c = omega (arith, fit-of _ _ _ _ (c .before .before .pre) .few)
+element-copy-out-x : tie.Need-element-copy-out-x Inv-loop μ-loop
+element-copy-out-x c = omega (arith, fit-of _ _ (c .before .before .pre) .few)
 
 share-bit-requires : tie.Need-share-bit-requires Inv-loop μ-loop
-share-bit-requires c κs = fit-of _ _ _ _ (c .before .before .before .pre) .range .shares-few
+share-bit-requires c κs = fit-of _ _ (c .before .before .before .pre) .range .shares-few
 
 cone-of-requires : tie.Need-cone-of-requires Inv-loop μ-loop
-cone-of-requires c κs = inside _ _ _ _ (c .before .before .before .before .pre) _ (c .before .before .loop-test .taken)
+cone-of-requires c κs = inside _ _ (c .before .before .before .before .pre) _ (c .before .before .loop-test .taken)
 
 mul-words : tie.Need-mul-words Inv-loop μ-loop
-mul-words c = omega (arith, fit-of _ _ _ _ (c .before .before .before .before .before .pre) .few)
+mul-words c = omega (arith, fit-of _ _ (c .before .before .before .before .before .pre) .few)
 
 array-write-words : tie.Need-array-write-words Inv-loop μ-loop
-array-write-words c = omega (arith, fit-of _ _ _ _ (c .before .before .before .before .before .pre) .few)
+array-write-words c = omega (arith, fit-of _ _ (c .before .before .before .before .before .pre) .few)
 
 add-w : tie.Need-add-w Inv-loop μ-loop
-add-w c = omega (arith, fit-of _ _ _ _ (c .before .before .before .before .before .pre) .few)
+add-w c = omega (arith, fit-of _ _ (c .before .before .before .before .before .pre) .few)
 
 loop-less : tie.Need-loop-less Inv-loop μ-loop
 loop-less c = omega arith
@@ -50,14 +50,15 @@ loop-less c = omega arith
 loop-again : tie.Need-loop-again Inv-loop μ-loop
 loop-again c = let s = c .before .before .before .before .before in let q = c .before .before .before .before in (
   omega arith,
-  share-turn (s .args .s) (s .args .d) (s .args .n) (s .args .t4) (s .pre) (q .loop .w) (c .before .before .before .loop-test .taken) (q .loop .words) _ _
-      (let l = q .loop .inv .2 in let f = fit-of _ _ _ _ (s .pre) .few in omega arith) (q .loop .inv .1)
-      (c .before .share-bit .ensures ∙ share-bit (s .args .s) (s .args .d) (s .args .n) (s .args .t4) (s .pre) (q .loop .w) (c .before .before .before .loop-test .taken)) (c .cone-of .ensures),
+  share-turn (s .args .t1 .shape) (s .args .t1 .wires) (s .pre) (q .loop .w) (c .before .before .before .loop-test .taken) (q .loop .words) _ _
+      (let l = q .loop .inv .2 in let f = fit-of _ _ (s .pre) .few in omega arith) (q .loop .inv .1)
+      (c .before .share-bit .ensures ∙ share-bit (s .args .t1 .shape) (s .args .t1 .wires) (s .pre) (q .loop .w)
+      (c .before .before .before .loop-test .taken)) (c .cone-of .ensures),
   simp length-set (q .loop .inv .2),
 )
 
 returns : tie.Need-returns Inv-loop μ-loop
-returns c = subst (λ (k : ℕ). take k (c .before .loop .words) ≡ shareCones (routineOf (c .before .before .args .s) (c .before .before .args .d) (c .before .before .args .n) (c .before .before .args .t4)) k) (omega arith) (c .before .loop .inv .1)
+returns c = subst (λ (k : ℕ). take k (c .before .loop .words) ≡ shareCones (routineIn (c .before .before .args .t1)) k) (omega arith) (c .before .loop .inv .1)
 
 pub share-cones-spec : {M : Type 1} → statement M
 share-cones-spec =
@@ -68,7 +69,7 @@ share-cones-spec =
     mul-shares
     loop-holds
     mul-x
-    array-copy-out-x
+    element-copy-out-x
     share-bit-requires
     cone-of-requires
     mul-words

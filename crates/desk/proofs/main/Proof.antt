@@ -3,8 +3,8 @@ use mathlib.Core.Path.{sym}
 use lib.ListN.{length}
 use lib.Seq.{length-take-le}
 use borrow.Author.Needs.{needs}
-use Rattle.intake.specs.Intake.{ended-within}
-use Rattle.buffer.specs.Begins.{within}
+use Rattle.intake.specs.Laws.Inputs.{ended-within}
+use Rattle.buffer.specs.Laws.Beginning.{begins-within}
 use Rattle.desk.proofs.main.Statement.{statement}
 use Rattle.desk.proofs.main.Tie as tie
 
@@ -22,10 +22,10 @@ answer-requires c κs = let r = c .before .before .before .read-whole in
     ended-within (r .result .input) (r .result .done) (r .result .last) (length (r .last .1 .0)) (r .ensures)
 
 array-share-prefix-out : tie.Need-array-share-prefix-out
-array-share-prefix-out c = within (c .answer .ensures)
+array-share-prefix-out c = begins-within (c .answer .ensures)
 
 slice-aggregate-write-all : tie.Need-slice-aggregate-write-all
-slice-aggregate-write-all c = let r = c .before .answer in sym (length-take-le (r .result) (r .last .1 .1 .0) (within (r .ensures)))
+slice-aggregate-write-all c = let r = c .before .answer in sym (length-take-le (r .result) (r .last .1 .1 .0) (begins-within (r .ensures)))
 
 write-all-requires : tie.Need-write-all-requires
 write-all-requires c κs = search needs

@@ -27,7 +27,8 @@ cast-if1 c = search needs
 returns : tie.Need-returns Inv-loop μ-loop
 returns c = let s = c .before .before .before in
     let l : length (s .args .t1) ≡ 4 = search needs in
-    sym (elem-here (s .args .t1) (s .args .len) (omega arith) (s .args .w) (c .before .before .loop .i) (omega arith) (c .if1 .taken)) ∙ c .before .before .loop .inv .1
+    sym (elem-here (s .args .t1) (s .args .len) (omega arith) (s .args .w) (c .before .before .loop .i) (omega arith) (c .if1 .taken))
+    ∙ c .before .before .loop .inv .1
 
 add-i : tie.Need-add-i Inv-loop μ-loop
 add-i c = search needs
@@ -38,7 +39,8 @@ loop-less c = search needs
 loop-again : tie.Need-loop-again Inv-loop μ-loop
 loop-again c = let s = c .before .before .before in
     let l : length (s .args .t1) ≡ 4 = search needs in
-    (omega arith, sym (elem-later (s .args .t1) (s .args .len) (omega arith) (s .args .w) (c .before .before .loop .i) (omega arith) (c .if1 .left)) ∙ c .before .before .loop .inv .1)
+    let on = elem-later (s .args .t1) (s .args .len) (omega arith) (s .args .w) (c .before .before .loop .i) (omega arith) (c .if1 .left) in
+    (omega arith, sym on ∙ c .before .before .loop .inv .1)
 
 returns-2 : tie.Need-returns-2 Inv-loop μ-loop
 returns-2 c = let s = c .before .before in

@@ -44,7 +44,8 @@ loop-less c = search needs
 loop-again : tie.Need-loop-again Inv-loop μ-loop
 loop-again c = let s = c .before .before .before in
     let l : length (s .args .t1) ≡ 4 = search needs in
-    (omega arith, sym (ascends-on (s .args .t1) (s .args .len) (omega arith) (c .before .before .loop .i) (omega arith) (c .if1 .left)) ∙ c .before .before .loop .inv .1)
+    let on = ascends-on (s .args .t1) (s .args .len) (omega arith) (c .before .before .loop .i) (omega arith) (c .if1 .left) in
+    (omega arith, sym on ∙ c .before .before .loop .inv .1)
 
 returns-2 : tie.Need-returns-2 Inv-loop μ-loop
 returns-2 c = let s = c .before .before in

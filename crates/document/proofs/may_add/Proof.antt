@@ -1,4 +1,4 @@
--- `document::may_add` meets its contract. Each return is one part of the document's test.
+-- `document::may_add` meets its contract. Each return is one part of the test that is defined.
 use mathlib.Core.Path.{sym, _∙_}
 use native.Mathlib.Omega.{arith}
 use borrow.Author.Needs.{needs}
@@ -16,7 +16,8 @@ holds-requires : tie.Need-holds-requires
 holds-requires c κs = search needs
 
 returns-3 : tie.Need-returns-3
-returns-3 c = let s = c .before .before .before .before .before in sym (held-refused (s .args .set) (s .args .w) (sym (c .before .holds .ensures) ∙ c .if3 .taken))
+returns-3 c = let s = c .before .before .before .before .before in
+    sym (held-refused (s .args .set) (s .args .w) (sym (c .before .holds .ensures) ∙ c .if3 .taken))
 
 is-ascending-requires : tie.Need-is-ascending-requires
 is-ascending-requires c κs = search needs

@@ -1,7 +1,7 @@
 -- `document::placed_at` meets its contract. Each return is one branch of the definition.
 use borrow.Author.Tests.{lt-ltb, le-ltb, le-leb, lt-leb, eq-eqb, ne-eqb}
 use borrow.Author.Needs.{needs}
-use Rattle.document.specs.Laws.Placing.{placedAt}
+use Rattle.document.specs.Placing.{placedAt}
 use Rattle.document.proofs.placed_at.Statement.{statement}
 use Rattle.document.proofs.placed_at.Tie as tie
 

@@ -1,6 +1,6 @@
 -- `document::places_with` meets its contract. Four places, each as it is defined.
 use borrow.Author.Needs.{needs}
-use Rattle.document.specs.Laws.Placing.{placesWith}
+use Rattle.document.specs.Placing.{placesWith}
 use Rattle.document.proofs.places_with.Statement.{statement}
 use Rattle.document.proofs.places_with.Tie as tie
 

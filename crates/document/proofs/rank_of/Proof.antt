@@ -4,7 +4,8 @@ use Prim.Native.Nat.{_+_, _-_, _≤_}
 use native.Mathlib.Omega.{arith}
 use borrow.Author.Needs.{needs}
 use lib.ListN.{length, take, drop}
-use Rattle.document.specs.Laws.Placing.{rank, rank-here, rank-later, rank-none}
+use Rattle.document.specs.Laws.Placing.{rank-here, rank-later, rank-none}
+use Rattle.document.specs.Placing.{rank}
 use Rattle.document.proofs.rank_of.Statement.{statement}
 use Rattle.document.proofs.rank_of.Tie as tie
 

@@ -7,14 +7,14 @@ use Prim.Native.Nat.{ℕ, zero, suc, _≤_, _<_}
 use native.Mathlib.Omega.{arith}
 use lib.ListN.{length, getD, set}
 use lib.Seq.{getD-set-same, getD-set-other}
-use Rattle.document.specs.Routine.{Routine, wire}
+use Rattle.document.specs.Routine.{Routine, wire, operands}
 use Rattle.document.specs.Running.{Value, valueAt}
-use Rattle.document.specs.Padding.{operands}
 use Rattle.document.specs.Laws.Tests.{clash, out-of, bool-cases, wire-cases, below, Mem}
 use Rattle.document.specs.Laws.Marks.{Set, In, Out, add, add-cases, add-in, add-self}
 use Rattle.document.specs.Laws.Rule.{Live, probed, operand, Step, Run, start, step}
 use Rattle.document.specs.Laws.Live.{net, pad-op-of, Earlier}
-use Rattle.document.specs.Laws.Sums.{upd, upd-same, upd-other, words, words-ext, slide, Small}
+use Rattle.document.specs.Laws.Sums.{upd, upd-same, upd-other, words, words-ext, slide}
+use Rattle.document.specs.Starts.{Small}
 use Rattle.document.specs.Laws.Values.{Lawful, inner-ext, inner-share, inner-perm, value, value-ok, value-leaf, value-inner}
 use Rattle.document.specs.declared.Kind.the-variants.{Share}
 
@@ -29,7 +29,8 @@ Reads P F = (e e′ : ℕ → ℕ) → ((w : ℕ) → In P w → e w ≡ e′ w)
 
 -- ---- one step: w becomes a leaf that reads the slot of r
 
-module _ (K : Value) (law : Lawful K) (R : Routine) (ok : Earlier R) (P L : Set) (σ : ℕ → ℕ) (m : ℕ) (sl : Slots R P L σ m) (w r : ℕ) (st : Step (net R) P L w r) (x y : List ℕ) where
+module _ (K : Value) (law : Lawful K) (R : Routine) (ok : Earlier R) (P L : Set) (σ : ℕ → ℕ) (m : ℕ) (sl : Slots R P L σ m)
+    (w r : ℕ) (st : Step (net R) P L w r) (x y : List ℕ) where
   abbrev L′ : Set
   L′ = add L w
 
@@ -120,7 +121,8 @@ module _ (K : Value) (law : Lawful K) (R : Routine) (ok : Earlier R) (P L : Set)
   unfolding φ π
   one-step sx sy F reads =
       words-ext (K .many) (law .pos) m (λ ρ. F (val ρ)) (λ ρ. F (val′ (φ ρ))) (λ ρ len _. reads (val ρ) (val′ (φ ρ)) (λ u p. sym (follow ρ len u (probed p))))
-      ∙ slide (K .many) (law .pos) m (σ r) (sl .low r (st .leaf)) π π-quiet (λ ρ sρ. inner-perm K law R x y w r (st .pads) (val ρ) (value-ok K law R ok L σ x ρ y sx sρ sy)) (λ ρ. F (val′ ρ))
+      ∙ slide (K .many) (law .pos) m (σ r) (sl .low r (st .leaf)) π π-quiet
+      (λ ρ sρ. inner-perm K law R x y w r (st .pads) (val ρ) (value-ok K law R ok L σ x ρ y sx sρ sy)) (λ ρ. F (val′ ρ))
 
   pub slots-step : Slots R P (add L w) (upd σ w (σ r)) m
   slots-step = record {
@@ -130,7 +132,8 @@ module _ (K : Value) (law : Lawful K) (R : Routine) (ok : Earlier R) (P L : Set)
     apart = λ u v lu lv iu iv e. wire-cases u w
         (λ a. wire-cases v w
         (λ b. a ∙ sym b)
-        (λ b. absurd (r-dead v lv (sl .apart v r (fewer lv) r-live (in-before v b iv) (st .leaf) (sym (upd-other σ w (σ r) v b) ∙ sym e ∙ upd-same σ w (σ r) u a)))))
+        (λ b. absurd (r-dead v lv (sl .apart v r (fewer lv) r-live (in-before v b iv) (st .leaf)
+        (sym (upd-other σ w (σ r) v b) ∙ sym e ∙ upd-same σ w (σ r) u a)))))
         (λ a. wire-cases v w
         (λ b. absurd (r-dead u lu (sl .apart u r (fewer lu) r-live (in-before u a iu) (st .leaf) (sym (upd-other σ w (σ r) u a) ∙ e ∙ upd-same σ w (σ r) v b))))
         (λ b. sl .apart u v (fewer lu) (fewer lv) (in-before u a iu) (in-before v b iv) (sym (upd-other σ w (σ r) u a) ∙ e ∙ upd-other σ w (σ r) v b)));
@@ -160,7 +163,8 @@ kept K law R ok P L₀ σ₀ m sl (step {L = L} {w = w} {r = r} run st) =
 
 -- ---- the randoms' count of an observation is fixed by the live shares and the publics
 
-module _ (K : Value) (law : Lawful K) (R : Routine) (ok : Earlier R) (P L₀ : Set) (σ₀ : ℕ → ℕ) (m : ℕ) (sl : Slots R P L₀ σ₀ m) (L : Set) (run : Run (net R) P L₀ L)
+module _ (K : Value) (law : Lawful K) (R : Routine) (ok : Earlier R) (P L₀ : Set) (σ₀ : ℕ → ℕ) (m : ℕ)
+    (sl : Slots R P L₀ σ₀ m) (L : Set) (run : Run (net R) P L₀ L)
     (x x′ y : List ℕ) (agree : (w : ℕ) → Live (net R) P L w → wire R w .kind ≡ Share → getD x w 0 ≡ getD x′ w 0) where
   same-value : (σ : ℕ → ℕ) (ρ : List ℕ) (u : ℕ) → Live (net R) P L u → value K law R L σ x ρ y u ≡ value K law R L σ x′ ρ y u
   same-value σ ρ = below (λ u. Live (net R) P L u → value K law R L σ x ρ y u ≡ value K law R L σ x′ ρ y u) (λ u ih l.

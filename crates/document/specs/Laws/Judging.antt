@@ -1,4 +1,4 @@
--- A judgement goes through its sets in order: it passes exactly when none is open, and otherwise stops at the first open one.
+-- A judgement goes through its sets in order (5.19, 5.20): it passes exactly when none is open, and otherwise stops at the first open one.
 use mathlib.Core.Path.{_≡_, refl, sym, ap, ap₂, _∙_, subst}
 use mathlib.Core.Bool.{Bool, true, false, not, _&&_, cond}
 use mathlib.Core.Logic.{_⊎_, inl, inr, _↔_}
@@ -11,9 +11,11 @@ use Rattle.document.specs.Basics.{some}
 use Rattle.document.specs.Routine.{Routine, size, wellFormed}
 use Rattle.document.specs.ProbeSets.{setOf}
 use Rattle.document.specs.Padding.{neededOf}
-use Rattle.document.specs.Judgements.{Judgement, plain, isOpen, setsInOrder, setsJudged, passed, opened, firstOpen, judgement, orderFits, judgedNot, judged}
-use Rattle.document.specs.Laws.Tests.{clash, bool-cases, cond-true, cond-false, ltb-true, ltb-false, true-ltb, out-of, some-none, none-some, leb-true, and-l, and-r}
-use Rattle.document.specs.Laws.Sets.{Among, sets→, sets←}
+use Rattle.document.specs.Judgements.{Judgement, plain, isOpen, setsInOrder, setsJudged, passed, opened, firstOpen, judgement}
+use Rattle.document.specs.Judgements.{orderFits, judgedNot, judged, Among, FirstOpen, NoneOpen}
+use Rattle.document.specs.Laws.Tests.{clash, bool-cases, cond-true, cond-false, ltb-true, ltb-false, true-ltb, out-of}
+use Rattle.document.specs.Laws.Tests.{some-none, none-some, leb-true, and-l, and-r}
+use Rattle.document.specs.Laws.Sets.{sets→, sets←}
 use Rattle.document.specs.Laws.Needed.{Within-order}
 use Rattle.document.specs.declared.Refusal.{Refusal}
 use Rattle.document.specs.declared.Refusal.the-variants as No
@@ -22,34 +24,24 @@ use Rattle.document.specs.declared.Verdict.the-variants as Says
 use Rattle.document.specs.declared.Judged.{Judged}
 use Rattle.document.specs.declared.ProbeSet.{ProbeSet}
 
--- no set of the list is open
-abbrev pub NoneOpen : (List ℕ → Bool) → List (List ℕ) → Type 0
-NoneOpen opens ss = (ps : List ℕ) → Among ps ss → opens ps ≡ false
-
--- ps is the first open set of the list, and k its place, counted from 1
-pub record FirstOpen (opens : List ℕ → Bool) (ss : List (List ℕ)) (ps : List ℕ) (k : ℕ) : Type 0 where
-  pub before : List (List ℕ)
-  pub after : List (List ℕ)
-  pub splits : ss ≡ before ++ ps ∷ after
-  pub closed : NoneOpen opens before
-  pub here : opens ps ≡ true
-  pub place : k ≡ length before + 1
-
--- a judgement of these sets either passes with their number, or has the first open one and its place
+-- the answer has the first open set and its place, after k sets
 pub record Opened (opens : List ℕ → Bool) (k : ℕ) (ss : List (List ℕ)) (answer : Judged) : Type 0 where
   pub set : List ℕ
   pub place : ℕ
   pub first : FirstOpen opens ss set place
   pub says : answer ≡ opened (k + place) set
 
-scan : (opens : List ℕ → Bool) (k : ℕ) (ss : List (List ℕ))
-    → (NoneOpen opens ss × (firstOpen opens k ss ≡ passed (k + length ss))) ⊎ Opened opens k ss (firstOpen opens k ss)
+-- a judgement of these sets either passes with their number, or has the first open one and its place
+abbrev Scanned : (List ℕ → Bool) → ℕ → List (List ℕ) → Judged → Type 0
+Scanned opens k ss answer = (NoneOpen opens ss × (answer ≡ passed (k + length ss))) ⊎ Opened opens k ss answer
+
+scan : (opens : List ℕ → Bool) (k : ℕ) (ss : List (List ℕ)) → Scanned opens k ss (firstOpen opens k ss)
 unfolding firstOpen
 scan opens k [] = inl (λ ps h. absurd h, ap passed (omega arith))
 scan opens k (s ∷ ss) = go (opens s) refl (scan opens (suc k) ss)
   where
-    go : (b : Bool) → opens s ≡ b → (NoneOpen opens ss × (firstOpen opens (suc k) ss ≡ passed (suc k + length ss))) ⊎ Opened opens (suc k) ss (firstOpen opens (suc k) ss)
-        → (NoneOpen opens (s ∷ ss) × (cond b (opened (suc k) s) (firstOpen opens (suc k) ss) ≡ passed (k + length (s ∷ ss)))) ⊎ Opened opens k (s ∷ ss) (cond b (opened (suc k) s) (firstOpen opens (suc k) ss))
+    go : (b : Bool) → opens s ≡ b → Scanned opens (suc k) ss (firstOpen opens (suc k) ss)
+        → Scanned opens k (s ∷ ss) (cond b (opened (suc k) s) (firstOpen opens (suc k) ss))
     go true e rest = inr (record {
       set = s;
       place = 1;
@@ -94,32 +86,38 @@ among-before (x ∷ xs) ys s = inr (among-before xs ys s)
 
 module _ (J : Judgement) (R : Routine) (t : ℕ) where
   -- what a judgement says: nothing is open, or the first open set
-  pub says : (NoneOpen (isOpen J R t) (setsJudged J R t) × (judgement J R t ≡ passed (length (setsJudged J R t)))) ⊎ Opened (isOpen J R t) 0 (setsJudged J R t) (judgement J R t)
+  abbrev pub Said : Type 0
+  Said =
+      (NoneOpen (isOpen J R t) (setsJudged J R t) × (judgement J R t ≡ passed (length (setsJudged J R t))))
+      ⊎ Opened (isOpen J R t) 0 (setsJudged J R t) (judgement J R t)
+
+  pub says : Said
   unfolding judgement
   says = elim (scan (isOpen J R t) 0 (setsJudged J R t)) [ inl p ↦ inl (p .0, p .1 ∙ ap passed (omega arith)) | inr o ↦ inr o ]
 
   pub pass-exactly : (c : ℕ) → (judgement J R t .verdict ≡ Says.Pass c) ↔ (NoneOpen (isOpen J R t) (setsJudged J R t) × (c ≡ length (setsJudged J R t)))
   pass-exactly c = (λ e. forth says e, λ p. back says p)
     where
-      forth : (NoneOpen (isOpen J R t) (setsJudged J R t) × (judgement J R t ≡ passed (length (setsJudged J R t)))) ⊎ Opened (isOpen J R t) 0 (setsJudged J R t) (judgement J R t)
-          → judgement J R t .verdict ≡ Says.Pass c → NoneOpen (isOpen J R t) (setsJudged J R t) × (c ≡ length (setsJudged J R t))
+      forth : Said → judgement J R t .verdict ≡ Says.Pass c → NoneOpen (isOpen J R t) (setsJudged J R t) × (c ≡ length (setsJudged J R t))
       forth (inl p) e = (p .0, the-count c (length (setsJudged J R t)) (sym e ∙ ap (λ (a : Judged). a .verdict) (p .1)))
       forth (inr o) e = never c (0 + o .place) (sym e ∙ ap (λ (a : Judged). a .verdict) (o .says))
 
-      back : (NoneOpen (isOpen J R t) (setsJudged J R t) × (judgement J R t ≡ passed (length (setsJudged J R t)))) ⊎ Opened (isOpen J R t) 0 (setsJudged J R t) (judgement J R t)
-          → NoneOpen (isOpen J R t) (setsJudged J R t) × (c ≡ length (setsJudged J R t)) → judgement J R t .verdict ≡ Says.Pass c
+      back : Said → NoneOpen (isOpen J R t) (setsJudged J R t) × (c ≡ length (setsJudged J R t)) → judgement J R t .verdict ≡ Says.Pass c
       back (inl p) q = ap (λ (a : Judged). a .verdict) (p .1) ∙ ap Says.Pass (sym (q .1))
-      back (inr o) q = clash (o .first .here) (q .0 (o .set) (subst (Among (o .set)) (sym (o .first .splits)) (among-before (o .first .before) (o .first .after) (o .set))))
+      back (inr o) q =
+          let f = o .first in
+          clash (f .here) (q .0 (o .set) (subst (Among (o .set)) (sym (f .splits)) (among-before (f .before) (f .after) (o .set))))
 
-  pub open-has : (c : ℕ) → judgement J R t .verdict ≡ Says.Open c → (ps : List ℕ) × FirstOpen (isOpen J R t) (setsJudged J R t) ps c × (judgement J R t .set ≡ setOf ps)
+  pub open-has : (c : ℕ) → judgement J R t .verdict ≡ Says.Open c
+      → (ps : List ℕ) × FirstOpen (isOpen J R t) (setsJudged J R t) ps c × (judgement J R t .set ≡ setOf ps)
   open-has c e = go says
     where
-      go : (NoneOpen (isOpen J R t) (setsJudged J R t) × (judgement J R t ≡ passed (length (setsJudged J R t)))) ⊎ Opened (isOpen J R t) 0 (setsJudged J R t) (judgement J R t)
-          → (ps : List ℕ) × FirstOpen (isOpen J R t) (setsJudged J R t) ps c × (judgement J R t .set ≡ setOf ps)
+      go : Said → (ps : List ℕ) × FirstOpen (isOpen J R t) (setsJudged J R t) ps c × (judgement J R t .set ≡ setOf ps)
       go (inl p) = never (length (setsJudged J R t)) c (sym (ap (λ (a : Judged). a .verdict) (p .1)) ∙ e)
       go (inr o) = (
         o .set,
-        subst (FirstOpen (isOpen J R t) (setsJudged J R t) (o .set)) (the-place (o .place) c (ap Says.Open (omega arith) ∙ sym (ap (λ (a : Judged). a .verdict) (o .says)) ∙ e)) (o .first),
+        subst (FirstOpen (isOpen J R t) (setsJudged J R t) (o .set))
+            (the-place (o .place) c (ap Says.Open (omega arith) ∙ sym (ap (λ (a : Judged). a .verdict) (o .says)) ∙ e)) (o .first),
         ap (λ (a : Judged). a .set) (o .says),
       )
 
@@ -164,7 +162,8 @@ pub plain-within : (R : Routine) (t : ℕ) → Within-order R (λ ps. ps) t ↔ 
 unfolding isOpen setsJudged
 plain-within R t = (
   λ p ps h. let z = sets→ t (size R) ps h in
-      none-some (R .S) (λ i. ltb t (neededOf R ps i)) (λ i k. out-of (λ e. let a = ltb-true t (neededOf R ps i) e in let b = p .passes ps (z .0) (z .1) (z .2) i k in omega arith)),
+      none-some (R .S) (λ i. ltb t (neededOf R ps i))
+      (λ i k. out-of (λ e. let a = ltb-true t (neededOf R ps i) e in let b = p .passes ps (z .0) (z .1) (z .2) i k in omega arith)),
   λ f. record {
     passes = λ ps a l m i k. ltb-false t (neededOf R ps i) (some-none (R .S) (λ i. ltb t (neededOf R ps i)) (f ps (sets← t (size R) ps a l m)) i k);
   },

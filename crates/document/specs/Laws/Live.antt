@@ -9,8 +9,8 @@ use native.Mathlib.Omega.{arith}
 use lib.Dec.{eqb}
 use lib.ListN.{length}
 use Rattle.document.specs.Basics.{Marks, at, mark, elem}
-use Rattle.document.specs.Routine.{Routine, size, wire}
-use Rattle.document.specs.Padding.{operandsOf, operands, liveDown, live, padsOf, pads}
+use Rattle.document.specs.Routine.{Routine, size, wire, operandsOf, operands}
+use Rattle.document.specs.Padding.{liveDown, live, padsOf, pads}
 use Rattle.document.specs.Laws.Tests.{clash, and-l, and-r, and-i, not-t, cond-cases, wire-cases, Mem}
 use Rattle.document.specs.Laws.Marks.{Set, In, Out, mark-length, mark-keeps, mark-cases, mark-marks}
 use Rattle.document.specs.Laws.Rule.{Net, Live, probed, operand}
@@ -59,11 +59,15 @@ module _ (R : Routine) (ok : Earlier R) (L : Marks) where
 
   pass-length : (u : ℕ) (m : Marks) → length (pass u m) ≡ length m
   unfolding pass
-  pass-length u m = cond-cases (λ (k : Marks). length k ≡ length m) (at m u && not (at L u)) (mark (operands R u) m) m (λ _. mark-length (operands R u) m) (λ _. refl)
+  pass-length u m =
+      cond-cases (λ (k : Marks). length k ≡ length m) (at m u && not (at L u)) (mark (operands R u) m) m
+      (λ _. mark-length (operands R u) m) (λ _. refl)
 
   pass-keeps : (u : ℕ) (m : Marks) (v : ℕ) → In (at m) v → In (at (pass u m)) v
   unfolding pass
-  pass-keeps u m v i = cond-cases (λ (k : Marks). In (at k) v) (at m u && not (at L u)) (mark (operands R u) m) m (λ _. mark-keeps (operands R u) m v i) (λ _. i)
+  pass-keeps u m v i =
+      cond-cases (λ (k : Marks). In (at k) v) (at m u && not (at L u)) (mark (operands R u) m) m
+      (λ _. mark-keeps (operands R u) m v i) (λ _. i)
 
   -- what a pass marks is an operand of a marked wire that is no leaf
   pass-cases : {X : Type 0} (u : ℕ) (m : Marks) (v : ℕ) → In (at (pass u m)) v
@@ -92,7 +96,8 @@ module _ (R : Routine) (ok : Earlier R) (L : Marks) where
   down-still (suc k) m v h i =
       pass-cases k m v (down-still k (pass k m) v (omega arith) i) (λ _ _ q. let z = ok k v q in absurd (omega arith)) (λ j. j)
 
-  down-closed : (k : ℕ) (m : Marks) (u v : ℕ) → k ≤ length m → u < k → In (at (liveDown R L k m)) u → Out (at L) u → Mem v (operands R u) → In (at (liveDown R L k m)) v
+  down-closed : (k : ℕ) (m : Marks) (u v : ℕ) → k ≤ length m → u < k → In (at (liveDown R L k m)) u
+      → Out (at L) u → Mem v (operands R u) → In (at (liveDown R L k m)) v
   unfolding liveDown pass
   down-closed zero m u v n h i o q = absurd (not-suc-le-zero h)
   down-closed (suc k) m u v n h i o q = wire-cases u k
@@ -102,7 +107,8 @@ module _ (R : Routine) (ok : Earlier R) (L : Marks) where
       (subst (Out (at L)) e o) (subst (λ (w : ℕ). Mem v (operands R w)) e q) (omega arith)))
       (λ e. let z = pass-length k m in down-closed k (pass k m) u v (omega arith) (omega arith) i o q)
 
-  down-sound : (P : Set) (k : ℕ) (m : Marks) → ((v : ℕ) → In (at m) v → Live (net R) P (at L) v) → (v : ℕ) → In (at (liveDown R L k m)) v → Live (net R) P (at L) v
+  down-sound : (P : Set) (k : ℕ) (m : Marks) → ((v : ℕ) → In (at m) v → Live (net R) P (at L) v)
+      → (v : ℕ) → In (at (liveDown R L k m)) v → Live (net R) P (at L) v
   unfolding liveDown pass
   down-sound P zero m s v i = s v i
   down-sound P (suc k) m s v i =

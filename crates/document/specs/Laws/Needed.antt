@@ -12,8 +12,9 @@ use lib.Dec.{ltb}
 use lib.ListN.{length, length-replicate}
 use Rattle.document.specs.Basics.{tally, Marks, at, mark}
 use Rattle.document.specs.Routine.{Routine, size}
-use Rattle.document.specs.ProbeSets.{insert}
-use Rattle.document.specs.Padding.{unmarked, probed as probedMarks, firstLeaves, live, stepsFrom, steps, lastLeaves, liveAtEnd, word, neededShares, bitsOf, neededOf}
+use Rattle.document.specs.ProbeSets.{insert, Asc}
+use Rattle.document.specs.Padding.{unmarked, probed as probedMarks, firstLeaves, live, stepsFrom, steps, lastLeaves, liveAtEnd}
+use Rattle.document.specs.Padding.{word, neededShares, bitsOf, neededOf}
 use Rattle.document.specs.Laws.Tests.{clash, ltb-true, ltb-false, tally-more, tally-spare, Mem}
 use Rattle.document.specs.Laws.Marks.{In, Out, mark-length, mark-cases, mark-marks, none-marked}
 use Rattle.document.specs.Laws.Rule.{Live, probed, Run, start, Final, monotone}
@@ -38,10 +39,6 @@ unfolding probedMarks
 probed← ps v h m = let z : length unmarked ≡ 128 = length-replicate 128 false in mark-marks ps unmarked v m (omega arith)
 
 -- ---- ascending lists of wires from lo on, below n
-
-abbrev pub Asc : ℕ → ℕ → List ℕ → Type 0
-Asc lo n [] = Unit {0}
-Asc lo n (p ∷ ps) = (lo ≤ p) × (p < n) × Asc (suc p) n ps
 
 pub asc-low : (lo n : ℕ) (ps : List ℕ) (v : ℕ) → Asc lo n ps → Mem v ps → v < n
 asc-low lo n [] v a m = absurd m
@@ -97,7 +94,8 @@ module _ (R : Routine) (so : Sound R) where
       let l = probed-length ps in
       let m = first-length R in
       let f = so .few in
-      ended R (so .earlier) (so .within) (probedMarks ps) (omega arith) (firstLeaves R) (size R) (firstLeaves R) (omega arith) (left-most R (firstLeaves R)) start
+      ended R (so .earlier) (so .within) (probedMarks ps) (omega arith) (firstLeaves R) (size R) (firstLeaves R) (omega arith)
+      (left-most R (firstLeaves R)) start
 
   pub needed-live : (ps : List ℕ) (v : ℕ) → In (at (liveAtEnd R ps)) v ↔ Live (net R) (at (probedMarks ps)) (at (lastLeaves R ps)) v
   unfolding liveAtEnd
@@ -107,8 +105,9 @@ module _ (R : Routine) (so : Sound R) where
   pub needed-probed : (ps : List ℕ) (v : ℕ) → v < size R → Mem v ps → In (at (liveAtEnd R ps)) v
   needed-probed ps v h m = let f = so .few in needed-live ps v .1 (probed (probed← ps v (omega arith) m))
 
-  -- adding probes never removes a wire that is live at the end
-  pub needed-mono : (ps qs : List ℕ) → ((v : ℕ) → Mem v ps → Mem v qs) → ((v : ℕ) → Mem v ps → v < size R) → (v : ℕ) → In (at (liveAtEnd R ps)) v → In (at (liveAtEnd R qs)) v
+  -- 3.25: adding probes never removes a wire that is live at the end
+  pub needed-mono : (ps qs : List ℕ) → ((v : ℕ) → Mem v ps → Mem v qs) → ((v : ℕ) → Mem v ps → v < size R)
+      → (v : ℕ) → In (at (liveAtEnd R ps)) v → In (at (liveAtEnd R qs)) v
   needed-mono ps qs sub low v i =
       let e = ended-at ps in
       let f = so .few in
@@ -116,22 +115,24 @@ module _ (R : Routine) (so : Sound R) where
       (λ u j. let k = probed→ ps u j in let b = low u k in probed← qs u (omega arith) (sub u k))
       (e .run) (e .final) (ended-at qs .run) v (needed-live ps v .0 i))
 
-  -- the ones of a secret's bits are how many of its shares are live at the end
+  -- 3.28: the ones of a secret's bits are how many of its shares are live at the end
   pub needed-tally : (ps : List ℕ) (i : ℕ) → i < R .S → neededOf R ps i ≡ tally (R .D) (λ j. at (liveAtEnd R ps) (i * R .D + j))
   unfolding neededOf bitsOf neededShares
   needed-tally ps i h =
       let m = R .S * R .D - (i * R .D + R .D) in
       let fits : i * R .D + R .D + m ≡ R .S * R .D = omega (arith, mul-le-mul-right (R .D) h) in
-      subst (λ (z : ℕ). ones (bitsOf R i (word z (at (liveAtEnd R ps)))) ≡ tally (R .D) (λ j. at (liveAtEnd R ps) (i * R .D + j))) fits (ones-part (i * R .D) (R .D) m (at (liveAtEnd R ps)))
+      subst (λ (z : ℕ). ones (bitsOf R i (word z (at (liveAtEnd R ps)))) ≡ tally (R .D) (λ j. at (liveAtEnd R ps) (i * R .D + j)))
+      fits (ones-part (i * R .D) (R .D) m (at (liveAtEnd R ps)))
 
-  -- ---- lower orders
+  -- ---- lower orders (9.13)
 
   module _ (obs : List ℕ → List ℕ) (wa : Watch R obs) where
     -- if a set of t wires needed t + 1 shares of a secret, one unneeded share more would need t + 2
     lower-one : (t : ℕ) → suc t < R .D → Within-order R obs (suc t) → Within-order R obs t
     lower-one t h p = record { passes = λ ps a l m i k. go ps a l m i k (decLe (neededOf R (obs ps) i) t) }
       where
-        go : (ps : List ℕ) → Asc 0 (size R) ps → 0 < length ps → length ps ≤ t → (i : ℕ) → i < R .S → Dec (neededOf R (obs ps) i ≤ t) → neededOf R (obs ps) i ≤ t
+        go : (ps : List ℕ) → Asc 0 (size R) ps → 0 < length ps → length ps ≤ t → (i : ℕ) → i < R .S
+            → Dec (neededOf R (obs ps) i ≤ t) → neededOf R (obs ps) i ≤ t
         go ps a l m i k (yes e) = e
         go ps a l m i k (no over) =
             let f : ℕ → Bool = λ j. at (liveAtEnd R (obs ps)) (i * R .D + j) in
@@ -147,13 +148,14 @@ module _ (R : Routine) (so : Sound R) where
             let r = p .passes (insert c ps) (g .asc) (omega arith) (omega arith) i k in
             let more = tally-more (R .D) f (λ j. at (liveAtEnd R (obs (insert c ps))) (i * R .D + j)) (s .0) (s .1) (s .2)
             (needed-probed (obs (insert c ps)) c c<n (wa .self (insert c ps) c (g .here)))
-            (λ u _ e. needed-mono (obs ps) (obs (insert c ps)) (wa .more ps (insert c ps) (g .there)) (wa .inside ps (λ v. asc-low 0 (length (R .wires)) ps v a)) (i * R .D + u) e) in
+            (λ u _ e. needed-mono (obs ps) (obs (insert c ps)) (wa .more ps (insert c ps) (g .there))
+            (wa .inside ps (λ v. asc-low 0 (length (R .wires)) ps v a)) (i * R .D + u) e) in
             omega arith
 
     pub lower : (k t : ℕ) → k ≤ t → t < R .D → Within-order R obs t → Within-order R obs k
     lower k t h = le-ind (λ (j : ℕ). j < R .D → Within-order R obs j → Within-order R obs k) (λ _ p. p) (λ j _ f l p. f (omega arith) (lower-one j l p)) t h
 
-    -- each set by its own size, as document 003 puts it
+    -- bounding each set by its own size comes to the same
     pub own-size : (t : ℕ) → t < R .D
         → Within-order R obs t ↔ ((ps : List ℕ) → Asc 0 (size R) ps → 0 < length ps → length ps ≤ t → (i : ℕ) → i < R .S → neededOf R (obs ps) i ≤ length ps)
     own-size t h = (

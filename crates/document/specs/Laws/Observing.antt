@@ -12,12 +12,12 @@ use Rattle.document.specs.Basics.{one, tally, keep, upTo, same, at}
 use Rattle.document.specs.Routine.{Routine, size, wire, isRand, randsBefore, pubsBefore}
 use Rattle.document.specs.Running.{Value, gives, valueAt, firstValues, running}
 use Rattle.document.specs.Padding.{probed as probedMarks, firstLeaves, lastLeaves, liveAtEnd, neededOf}
-use Rattle.document.specs.Starts.{allWords, xorOf, splits, Start, starts, observed, patternCount}
+use Rattle.document.specs.Starts.{allWords, xorOf, splits, Start, starts, observed, patternCount, Small}
 use Rattle.document.specs.Laws.Tests.{clash, bool-cases, wire-cases, tally-spare, Mem}
 use Rattle.document.specs.Laws.Marks.{Set, In, Out}
 use Rattle.document.specs.Laws.Rule.{Live, Run}
 use Rattle.document.specs.Laws.Live.{net, Earlier}
-use Rattle.document.specs.Laws.Sums.{total, total-ext, words, words-ext, Small}
+use Rattle.document.specs.Laws.Sums.{total, total-ext, words, words-ext}
 use Rattle.document.specs.Laws.Values.{Lawful, inner-ext, value, value-leaf, value-inner}
 use Rattle.document.specs.Laws.Splitting.{splitsAt, splitsTo, startSum, secret-free}
 use Rattle.document.specs.Laws.Sound.{Sound, first-leaf→, first-leaf←, first-slots}
@@ -134,7 +134,8 @@ module _ (K : Value) (law : Lawful K) (R : Routine) (so : Sound R) where
     newest : (n : ℕ) (e : ℕ → ℕ) → ((v : ℕ) → v < n → e v ≡ val v) → valueAt K R x ρ y e n ≡ val n
     unfolding valueAt val
     newest n e ih = bool-cases (leaves n)
-        (λ i. gives-leaf (wire R n .kind) (getD x n 0) (getD ρ (randsBefore R n) 0) (getD y (pubsBefore R n) 0) (e (wire R n .a)) (e (wire R n .b)) (first-leaf→ R n i)
+        (λ i. gives-leaf (wire R n .kind) (getD x n 0) (getD ρ (randsBefore R n) 0) (getD y (pubsBefore R n) 0) (e (wire R n .a)) (e (wire R n .b))
+        (first-leaf→ R n i)
         ∙ sym (value-leaf K law R (so .earlier) leaves (randsBefore R) x ρ y n i))
         (λ o. gives-inner (wire R n .kind) (getD x n 0) (getD ρ (randsBefore R n) 0) 0 (getD y (pubsBefore R n) 0) (e (wire R n .a)) (e (wire R n .b))
         (bool-cases (isRand (wire R n .kind)) (λ i. clash (first-leaf← R (so .few) n i) o) (λ z. z))
@@ -186,14 +187,17 @@ module _ (K : Value) (law : Lawful K) (R : Routine) (so : Sound R) where
         (sum-map sees (start x) (allWords K m) ∙ sum-words K m _
         ∙ words-ext (K .many) (law .pos) m _ _ (λ ρ _ _. ap (λ (vs : List ℕ). one (same vs pattern)) (observed-is x ρ))))
 
-    pub spare-counts : ((i : ℕ) → i < R .S → neededOf R os i < R .D) → Small (K .many) y → (secrets secrets′ : List ℕ) → Small (K .many) secrets → Small (K .many) secrets′
+    pub spare-counts : ((i : ℕ) → i < R .S → neededOf R os i < R .D) → Small (K .many) y
+        → (secrets secrets′ : List ℕ) → Small (K .many) secrets → Small (K .many) secrets′
         → patternCount K R y os pattern secrets ≡ patternCount K R y os pattern secrets′
     unfolding shows
     spare-counts few sy secrets secrets′ h h′ =
         count-is secrets
-        ∙ secret-free K law R (so .earlier) (at (probedMarks os)) (at (firstLeaves R)) (randsBefore R) (randsBefore R (size R)) (first-slots R (at (probedMarks os)))
+        ∙ secret-free K law R (so .earlier) (at (probedMarks os)) (at (firstLeaves R)) (randsBefore R) (randsBefore R (size R))
+        (first-slots R (at (probedMarks os)))
         (at (lastLeaves R os)) (ended-at R so os .run) y sy (shows os pattern)
-        (λ e e′ k. ap (λ (vs : List ℕ). one (same vs pattern)) (map-ext os e e′ (λ w m. let f = so .few in let b = low w m in k w (probed← os w (omega arith) m))))
+        (λ e e′ k. ap (λ (vs : List ℕ). one (same vs pattern))
+        (map-ext os e e′ (λ w m. let f = so .few in let b = low w m in k w (probed← os w (omega arith) m))))
         (λ i i<S. let f = few i i<S in
         let is = needed-tally R so os i i<S in
         let s = tally-spare (R .D) (λ j. at (liveAtEnd R os) (i * R .D + j)) (omega arith) in

@@ -8,7 +8,8 @@ use native.Mathlib.Omega.{arith}
 use lib.ListN.{length, set, length-set}
 use Rattle.document.specs.Basics.{tally, Marks, at, mark}
 use Rattle.document.specs.Routine.{Routine, size}
-use Rattle.document.specs.Padding.{probed, firstLeaves, live, padsBy, canPad, nextStep, stepped, goOn, stepsFrom, steps, lastLeaves, liveAtEnd, neededOf}
+use Rattle.document.specs.Padding.{probed, firstLeaves, live, padsBy, canPad, nextStep, stepped, goOn, stepsFrom, steps}
+use Rattle.document.specs.Padding.{lastLeaves, liveAtEnd, neededOf, Allowed, begin, pad, Stuck}
 use Rattle.document.specs.Laws.Tests.{clash, out-of, bool-cases, tally-mono, Mem}
 use Rattle.document.specs.Laws.Marks.{In, Out, set-add}
 use Rattle.document.specs.Laws.Rule.{Live, Run, start, step, Final, confluent}
@@ -18,16 +19,7 @@ use Rattle.document.specs.Laws.Sound.{Sound, few-rooms, first-length}
 use Rattle.document.specs.Laws.Needed.{probed-length, ended-at, needed-mono, needed-tally}
 use Rattle.document.specs.declared.Step.{Step as Pair}
 
--- allowed steps, one after the other, from the leaves L₀ to the leaves L
-pub data Allowed (R : Routine) (probe L₀ : Marks) : Marks → Type 0 where
-  begin : Allowed R probe L₀ L₀
-  pad : {L : Marks} → Allowed R probe L₀ L → (w r : ℕ) → canPad R probe L w r ≡ true → Allowed R probe L₀ (stepped L w)
-
--- no wire can be padded
-abbrev pub Stuck : Routine → Marks → Marks → Type 0
-Stuck R probe L = (w r : ℕ) → canPad R probe L w r ≡ false
-
--- the rule's own steps are allowed
+-- 3.22: the rule's own steps are allowed
 own-steps : (R : Routine) (probe L₀ : Marks) (k : ℕ) (L : Marks) → Allowed R probe L₀ L → Allowed R probe L₀ (leavesAfter (stepsFrom R probe k L) L)
 unfolding stepsFrom goOn nextStep canPad mark
 own-steps R probe L₀ zero L a = a
@@ -62,7 +54,9 @@ module _ (R : Routine) (so : Sound R) (ps : List ℕ) where
   final-of : (L : Marks) → Stuck R (probed ps) L → Final (net R) (at (probed ps)) (at L)
   final-of L stuck w r s = clash (step← R (so .earlier) (so .within) (probed ps) L long w r s) (stuck w r)
 
-  pub any-order : {L L′ : Marks} → Allowed R (probed ps) (firstLeaves R) L → Stuck R (probed ps) L → Allowed R (probed ps) (firstLeaves R) L′ → Stuck R (probed ps) L′
+  -- 3.24: all runs that go on to the end have the same live wires
+  pub any-order : {L L′ : Marks} → Allowed R (probed ps) (firstLeaves R) L → Stuck R (probed ps) L
+      → Allowed R (probed ps) (firstLeaves R) L′ → Stuck R (probed ps) L′
       → (v : ℕ) → at (live R (probed ps) L) v ≡ at (live R (probed ps) L′) v
   any-order {L} {L′} a s a′ s′ v =
       let same = confluent (net R) (at (probed ps)) (at (firstLeaves R)) (run-of a .1) (final-of L s) (run-of a′ .1) (final-of L′ s′) v in
@@ -81,11 +75,12 @@ module _ (R : Routine) (so : Sound R) (ps : List ℕ) where
       let b = few-rooms R so (firstLeaves R) in
       omega arith
 
--- more probes need no less, of each secret
+-- 3.25: more probes need no less, of each secret
 pub needed-more : (R : Routine) → Sound R → (ps qs : List ℕ) → ((v : ℕ) → Mem v ps → Mem v qs) → ((v : ℕ) → Mem v ps → v < size R)
     → (i : ℕ) → i < R .S → neededOf R ps i ≤ neededOf R qs i
 needed-more R so ps qs sub low i h =
     let a = needed-tally R so ps i h in
     let b = needed-tally R so qs i h in
-    let c = tally-mono (R .D) (λ j. at (liveAtEnd R ps) (i * R .D + j)) (λ j. at (liveAtEnd R qs) (i * R .D + j)) (λ j _ e. needed-mono R so ps qs sub low (i * R .D + j) e) in
+    let c = tally-mono (R .D) (λ j. at (liveAtEnd R ps) (i * R .D + j)) (λ j. at (liveAtEnd R qs) (i * R .D + j))
+    (λ j _ e. needed-mono R so ps qs sub low (i * R .D + j) e) in
     omega arith

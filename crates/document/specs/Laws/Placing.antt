@@ -1,4 +1,4 @@
--- Where an addition puts a wire, place by place, and that this is the document's addition.
+-- Where an addition puts a wire, place by place, and that this is the addition of 4.9 and 4.10.
 use mathlib.Core.Path.{_≡_, refl, sym, ap, _∙_}
 use mathlib.Core.Bool.{Bool, true, false, not, _&&_, _||_, cond}
 use mathlib.Core.List.{List, [], _∷_, _++_}
@@ -11,23 +11,12 @@ use lib.Seq.{drop-cons, getD-take, length-take-le}
 use borrow.Author.Tests.{ne-eqb, le-ltb, lt-leb}
 use Rattle.document.specs.Basics.{elem}
 use Rattle.document.specs.ProbeSets.{held, ascending, mayAdd, insert, adding}
+use Rattle.document.specs.Placing.{rank, placedAt, placesWith}
 use Rattle.document.specs.Laws.Tests.{and-l, and-r, and-false, or-l, cond-cases, cond-true, cond-false, true-eqb, true-ltb, ltb-true, true-leb, leb-true}
 use Rattle.document.specs.declared.Refusal.the-variants as No
 use Rattle.document.specs.declared.Outcome.the-variants.{Done, Refused}
 use Rattle.document.specs.declared.ProbeSet.{ProbeSet}
 use Rattle.document.specs.declared.Added.{Added}
-
--- how many stand before the first that is above w
-unfoldable pub rank : ℕ → List ℕ → ℕ
-rank w [] = 0
-rank w (p ∷ ps) = cond (ltb w p) 0 (suc (rank w ps))
-
--- what stands at place i once w is put in at place k: those from k to the end move up by one
-unfoldable pub placedAt : List ℕ → ℕ → ℕ → ℕ → ℕ → ℕ
-placedAt places len k w i = cond (eqb i k) w (cond (ltb i k) (getD places i 0) (cond (leb i len) (getD places (i - 1) 0) (getD places i 0)))
-
-unfoldable pub placesWith : List ℕ → ℕ → ℕ → ℕ → List ℕ
-placesWith places len k w = placedAt places len k w 0 ∷ placedAt places len k w 1 ∷ placedAt places len k w 2 ∷ placedAt places len k w 3 ∷ []
 
 -- ---- the held wires from place i on
 
@@ -100,7 +89,8 @@ rank-fits w P len h = let a = rank-most w (take len P) in let b = length-take-le
 
 -- the places of the addition, for each length that has room
 four : (a b c d w len : ℕ) → len < 4
-    → placesWith (a ∷ b ∷ c ∷ d ∷ []) len (rank w (take len (a ∷ b ∷ c ∷ d ∷ []))) w ≡ insert w (take len (a ∷ b ∷ c ∷ d ∷ [])) ++ drop (len + 1) (a ∷ b ∷ c ∷ d ∷ [])
+    → placesWith (a ∷ b ∷ c ∷ d ∷ []) len (rank w (take len (a ∷ b ∷ c ∷ d ∷ []))) w
+    ≡ insert w (take len (a ∷ b ∷ c ∷ d ∷ [])) ++ drop (len + 1) (a ∷ b ∷ c ∷ d ∷ [])
 unfolding placesWith placedAt rank insert
 four a b c d w zero h = refl
 four a b c d w (suc zero) h = go (ltb w a)
@@ -110,7 +100,8 @@ four a b c d w (suc zero) h = go (ltb w a)
     go false = refl
 four a b c d w (suc (suc zero)) h = go (ltb w a) (ltb w b)
   where
-    go : (x y : Bool) → placesWith (a ∷ b ∷ c ∷ d ∷ []) 2 (cond x 0 (suc (cond y 0 1))) w ≡ cond x (w ∷ a ∷ b ∷ []) (a ∷ cond y (w ∷ b ∷ []) (b ∷ w ∷ [])) ++ d ∷ []
+    go : (x y : Bool) → placesWith (a ∷ b ∷ c ∷ d ∷ []) 2 (cond x 0 (suc (cond y 0 1))) w
+        ≡ cond x (w ∷ a ∷ b ∷ []) (a ∷ cond y (w ∷ b ∷ []) (b ∷ w ∷ [])) ++ d ∷ []
     go true y = refl
     go false true = refl
     go false false = refl
@@ -124,7 +115,8 @@ four a b c d w (suc (suc (suc zero))) h = go (ltb w a) (ltb w b) (ltb w c)
     go false false false = refl
 four a b c d w (suc (suc (suc (suc len)))) h = absurd (omega arith)
 
-pub added-places : (w : ℕ) (P : List ℕ) (len : ℕ) → length P ≡ 4 → len < 4 → placesWith P len (rank w (take len P)) w ≡ insert w (take len P) ++ drop (len + 1) P
+pub added-places : (w : ℕ) (P : List ℕ) (len : ℕ) → length P ≡ 4 → len < 4
+    → placesWith P len (rank w (take len P)) w ≡ insert w (take len P) ++ drop (len + 1) P
 added-places w (a ∷ b ∷ c ∷ d ∷ []) len e h = four a b c d w len h
 added-places w [] len e h = absurd (omega arith)
 added-places w (a ∷ []) len e h = absurd (omega arith)
@@ -162,7 +154,8 @@ pub added : (s : ProbeSet) (w : ℕ) → length (s .places) ≡ 4 → mayAdd s w
     → _≡_ {A = Added} (record { outcome = Done; set = record { places = placesWith (s .places) (s .len) (rank w (held s)) w; len = s .len + 1 } }) (adding s w)
 unfolding adding
 added s w e may =
-    ap {B = Added} (λ (ps : List ℕ). record { outcome = Done; set = record { places = ps; len = s .len + 1 } }) (added-places w (s .places) (s .len) e (may-add-room s w may))
+    ap {B = Added} (λ (ps : List ℕ). record { outcome = Done; set = record { places = ps; len = s .len + 1 } })
+    (added-places w (s .places) (s .len) e (may-add-room s w may))
     ∙ sym (cond-true _ _ may)
 
 pub not-added : (s : ProbeSet) (w : ℕ) → mayAdd s w ≡ false → _≡_ {A = Added} (record { outcome = Refused No.Probes; set = s }) (adding s w)

@@ -11,12 +11,12 @@ pub record Net : Type 1 where
   pub Pad : ℕ → ℕ → Type 0
   pub pad-op : (w r : ℕ) → Pad w r → Op w r
 
--- "A wire is live if it is probed, or is an operand of a live wire that is not a leaf."
+-- 3.5: a wire is live when it is probed, or is an operand of a live wire that is no leaf
 pub data Live (N : Net) (P L : Set) : ℕ → Type 0 where
   probed : {w : ℕ} → In P w → Live N P L w
   operand : {u w : ℕ} → Live N P L u → Out L u → N .Op u w → Live N P L w
 
--- "A wire w can be padded when all of these hold"
+-- 3.9 to 3.11: w can be padded by r
 pub record Step (N : Net) (P L : Set) (w r : ℕ) : Type 0 where
   pub alive : Live N P L w
   pub inner : Out L w
@@ -25,12 +25,12 @@ pub record Step (N : Net) (P L : Set) (w r : ℕ) : Type 0 where
   pub hidden : Out P r
   pub only : (u : ℕ) → Live N P L u → Out L u → N .Op u r → u ≡ w
 
--- steps in any order, from the leaves L₀
+-- 3.20: allowed steps in any order, from the leaves L₀
 pub data Run (N : Net) (P L₀ : Set) : Set → Type 0 where
   start : Run N P L₀ L₀
   step : {L : Set} {w r : ℕ} → Run N P L₀ L → Step N P L w r → Run N P L₀ (add L w)
 
--- no wire can be padded
+-- 3.21: no step is left
 abbrev pub Final : Net → Set → Set → Type 0
 Final N P L = (w r : ℕ) → Step N P L w r → ⊥
 
@@ -69,11 +69,11 @@ module _ (N : Net) (P P′ L₀ : Set) (sub : Sub P P′) where
   invariant r fin start v l i = grows r v i
   invariant {L} r fin (step {L = M} r′ s) v l i = keep N P P′ L M sub (λ u k j. invariant r fin r′ u k j) fin s v l i
 
-  -- adding probes never removes a wire that is live at the end, whatever the orders of the steps, and however far the second run went
+  -- 3.25: adding probes never removes a wire that is live at the end, whatever the orders of the steps, and however far the second run went
   pub monotone : {L L′ : Set} → Run N P L₀ L → Final N P L → Run N P′ L₀ L′ → (v : ℕ) → Live N P L v → Live N P′ L′ v
   monotone {L} {L′} r fin r′ v l = still-live N P P′ L L′ sub (invariant r fin r′) l
 
--- any two runs to the end have the same live wires
+-- 3.24: any two runs to the end have the same live wires
 pub confluent : (N : Net) (P L₀ : Set) {L L′ : Set} → Run N P L₀ L → Final N P L → Run N P L₀ L′ → Final N P L′
     → (v : ℕ) → Live N P L v ↔ Live N P L′ v
 confluent N P L₀ r f r′ f′ v = (monotone N P P L₀ (λ w h. h) r f r′ v, monotone N P P L₀ (λ w h. h) r′ f′ r v)

@@ -1,4 +1,4 @@
--- Demand 3 over any lawful kind of value and any way to observe: a set of at most t wires shows nothing of the secrets.
+-- 9.14 and 9.15 over any lawful kind of value and any way to observe: a set of at most t wires shows nothing of the secrets.
 use mathlib.Core.Path.{_≡_}
 use mathlib.Core.Logic.{inl, inr}
 use mathlib.Core.List.{List, [], _∷_}
@@ -8,17 +8,18 @@ use native.Mathlib.Omega.{arith}
 use lib.ListN.{length}
 use Rattle.document.specs.Routine.{Routine, size}
 use Rattle.document.specs.Running.{Value}
-use Rattle.document.specs.Starts.{patternCount}
+use Rattle.document.specs.Starts.{patternCount, Small}
 use Rattle.document.specs.Padding.{neededOf}
 use Rattle.document.specs.Laws.Tests.{Mem}
-use Rattle.document.specs.Laws.Sums.{Small}
 use Rattle.document.specs.Laws.Values.{Lawful}
 use Rattle.document.specs.Laws.Sound.{Sound}
-use Rattle.document.specs.Laws.Needed.{Asc, asc-low, Watch, Within-order}
+use Rattle.document.specs.Laws.Needed.{asc-low, Watch, Within-order}
+use Rattle.document.specs.ProbeSets.{Asc}
 use Rattle.document.specs.Laws.Observing.{spare-counts}
 use Rattle.document.specs.Laws.Orders.{needed-more}
 
-module _ (K : Value) (law : Lawful K) (R : Routine) (so : Sound R) (obs : List ℕ → List ℕ) (wa : Watch R obs) (t : ℕ) (some-order : 1 ≤ t) (order : t < R .D) (pass : Within-order R obs t) where
+module _ (K : Value) (law : Lawful K) (R : Routine) (so : Sound R) (obs : List ℕ → List ℕ) (wa : Watch R obs)
+    (t : ℕ) (some-order : 1 ≤ t) (order : t < R .D) (pass : Within-order R obs t) where
   -- each secret keeps an unneeded share; the empty set needs no more than the set of wire 0
   spare : (ps : List ℕ) → Asc 0 (size R) ps → length ps ≤ t → (i : ℕ) → i < R .S → neededOf R (obs ps) i < R .D
   spare (p ∷ ps) asc few i i<S = let z = pass .passes (p ∷ ps) asc (omega arith) few i i<S in omega arith

@@ -1,4 +1,4 @@
--- The sets in order: all sets of 1 to k wires, each once, by size, then by lowest wire, next wire and so on.
+-- The sets in order (5.11): all sets of 1 to k wires, each once, a smaller set first, and of one size the lower one first.
 use mathlib.Core.Path.{_≡_, refl, sym, ap, _∙_, subst}
 use mathlib.Core.Bool.{Bool, true, false, _&&_}
 use mathlib.Core.Logic.{_⊎_, inl, inr, _↔_}
@@ -9,17 +9,11 @@ use native.Mathlib.Omega.{arith}
 use lib.Dec.{ltb}
 use lib.ListN.{length}
 use Rattle.document.specs.Basics.{each}
-use Rattle.document.specs.ProbeSets.{ascending}
-use Rattle.document.specs.Judgements.{setsOf, setsInOrder}
+use Rattle.document.specs.ProbeSets.{ascending, WireSet, Asc}
+use Rattle.document.specs.Judgements.{setsOf, setsInOrder, Among, Before, Ordered, Lower}
 use Rattle.document.specs.Laws.Tests.{and-l, and-r, and-i, ltb-true, true-ltb, wire-cases}
-use Rattle.document.specs.Laws.Needed.{Asc}
 
 -- ---- sets by their tests
-
--- ascending, and of wires below n
-pub record WireSet (n : ℕ) (ps : List ℕ) : Type 0 where
-  pub ascends : ascending ps ≡ true
-  pub wires : each (λ w. ltb w n) ps ≡ true
 
 asc-of : (lo n : ℕ) (ps : List ℕ) → ascending ps ≡ true → each (λ w. ltb w n) ps ≡ true → ((p : ℕ) (qs : List ℕ) → ps ≡ p ∷ qs → lo ≤ p) → Asc lo n ps
 unfolding ascending each
@@ -52,10 +46,6 @@ pub wire-set : (n : ℕ) (ps : List ℕ) → Asc 0 n ps → WireSet n ps
 wire-set n ps a = record { ascends = ascends-of 0 n ps a; wires = wires-of 0 n ps a }
 
 -- ---- a list holds a set
-
-abbrev pub Among : List ℕ → List (List ℕ) → Type 0
-Among s [] = ⊥
-Among s (x ∷ xs) = (s ≡ x) ⊎ Among s xs
 
 pub among-l : (s : List ℕ) (xs ys : List (List ℕ)) → Among s xs → Among s (xs ++ ys)
 among-l s [] ys h = absurd h
@@ -134,21 +124,6 @@ sets→ (suc k) n ps h = go (among-split ps (setsInOrder k n) (setsOf (suc k) n 
     go (inr i) f = let z = sets-of→ (suc k) n 0 n ps (omega arith) i in (z .0, omega (arith, z .1), omega (arith, z .1))
 
 -- ---- and holds them in the stated order
-
--- "by lowest wire, next wire and so on"
-abbrev pub Lower : List ℕ → List ℕ → Type 0
-Lower [] qs = ⊥
-Lower (p ∷ ps) [] = ⊥
-Lower (p ∷ ps) (q ∷ qs) = (p < q) ⊎ ((p ≡ q) × Lower ps qs)
-
--- "by size, smallest first, then .."
-abbrev pub Before : List ℕ → List ℕ → Type 0
-Before ps qs = (length ps < length qs) ⊎ ((length ps ≡ length qs) × Lower ps qs)
-
--- each set comes before all that follow it; so no set comes twice
-abbrev pub Ordered : List (List ℕ) → Type 0
-Ordered [] = Unit {0}
-Ordered (x ∷ xs) = ((y : List ℕ) → Among y xs → Before x y) × Ordered xs
 
 ordered-append : (xs ys : List (List ℕ)) → Ordered xs → Ordered ys → ((x y : List ℕ) → Among x xs → Among y ys → Before x y) → Ordered (xs ++ ys)
 ordered-append [] ys o p h = p

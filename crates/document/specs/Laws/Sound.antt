@@ -10,8 +10,9 @@ use native.Mathlib.Omega.{arith}
 use lib.Dec.{eqb, ltb, leb}
 use lib.ListN.{length, List·getD-eq-default, length-replicate}
 use Rattle.document.specs.Basics.{tally, all, at, mark}
-use Rattle.document.specs.Routine.{Routine, size, blank, wire, isRand, randsBefore, pubsBefore, outputs, inRange, fits, record-fits, ceilings, wellFormed}
-use Rattle.document.specs.Padding.{unmarked, operandsOf, operands, randsFrom, firstLeaves, padsOf, pads}
+use Rattle.document.specs.Routine.{Routine, size, blank, wire, isRand, randsBefore, pubsBefore, outputs, operandsOf, operands}
+use Rattle.document.specs.Routine.{inRange, fits, record-fits, ceilings, wellFormed}
+use Rattle.document.specs.Padding.{unmarked, randsFrom, firstLeaves, padsOf, pads}
 use Rattle.document.specs.Laws.Tests.{clash, and-l, and-r, and-false, eqb-true, ltb-true, leb-true, wire-cases, all-at, tally-le, tally-skip, Mem}
 use Rattle.document.specs.Laws.Marks.{Set, In, Out, mark-length, mark-cases, mark-marks, none-marked}
 use Rattle.document.specs.Laws.Live.{Earlier, Within}
@@ -106,7 +107,8 @@ module _ (R : Routine) (good : wellFormed R ≡ true) where
     some-shares = leb-true 2 (R .D) (let z = ranged in search (and-l, and-r));
     few-secrets = leb-true (R .S) 8 (let z = ranged in search (and-l, and-r));
     few-shares = leb-true (R .D) 8 (let z = ranged in search (and-l, and-r));
-    kinds = λ w h. fits-share R w (wire R w .kind) (wire R w .a) (wire R w .b) (record-at w (let z = leb-true (R .S * R .D) (size R) room-for-shares in omega arith)) h;
+    kinds = λ w h. fits-share R w (wire R w .kind) (wire R w .a) (wire R w .b)
+        (record-at w (let z = leb-true (R .S * R .D) (size R) room-for-shares in omega arith)) h;
   }
 
 -- shares have no pads, so the wires with pads are no shares
@@ -136,7 +138,8 @@ unfolding randsFrom
 rands← R zero lo v h l e = absurd (omega arith)
 rands← R (suc m) lo v h l e = go (isRand (wire R lo .kind)) refl (λ k. rands← R m (suc lo) v k (omega arith) e)
   where
-    go : (b : Bool) → isRand (wire R lo .kind) ≡ b → (suc lo ≤ v → Mem v (randsFrom R m (suc lo))) → Mem v (cond b (lo ∷ randsFrom R m (suc lo)) (randsFrom R m (suc lo)))
+    go : (b : Bool) → isRand (wire R lo .kind) ≡ b → (suc lo ≤ v → Mem v (randsFrom R m (suc lo)))
+        → Mem v (cond b (lo ∷ randsFrom R m (suc lo)) (randsFrom R m (suc lo)))
     go true q rest = wire-cases v lo inl (λ n. inr (rest (omega arith)))
     go false q rest = wire-cases v lo (λ n. clash (subst (λ (k : ℕ). isRand (wire R k .kind) ≡ true) n e) q) (λ n. rest (omega arith))
 
@@ -151,7 +154,7 @@ pub first-length : (R : Routine) → length (firstLeaves R) ≡ 128
 unfolding firstLeaves
 first-length R = mark-length (randsFrom R (size R) 0) unmarked ∙ length-replicate 128 false
 
--- "Begin with every random wire as a leaf."
+-- 3.4: the first leaves are the randoms
 pub first-leaf→ : (R : Routine) (v : ℕ) → In (at (firstLeaves R)) v → isRand (wire R v .kind) ≡ true
 unfolding firstLeaves
 first-leaf→ R v i = mark-cases (randsFrom R (size R) 0) unmarked v i (rands→ R (size R) 0 v) (λ j. clash j (none-marked 128 v))

@@ -12,12 +12,12 @@ use lib.Seq.{getD-set-same, getD-set-other}
 use Rattle.document.specs.Basics.{all}
 use Rattle.document.specs.Routine.{Routine}
 use Rattle.document.specs.Running.{Value}
-use Rattle.document.specs.Starts.{xorOf}
+use Rattle.document.specs.Starts.{xorOf, Small}
 use Rattle.document.specs.Laws.Tests.{clash, bool-cases, eqb-true, true-eqb, out-of, wire-cases, all-ext}
 use Rattle.document.specs.Laws.Marks.{Set}
 use Rattle.document.specs.Laws.Rule.{Live, Run}
 use Rattle.document.specs.Laws.Live.{net, Earlier}
-use Rattle.document.specs.Laws.Sums.{upd, upd-same, upd-other, words, words-ext, slide, Small, small-set}
+use Rattle.document.specs.Laws.Sums.{upd, upd-same, upd-other, words, words-ext, slide, small-set}
 use Rattle.document.specs.Laws.Values.{Lawful, cancel, plus-perm-l, value}
 use Rattle.document.specs.Laws.Counting.{Slots, Reads, fixed}
 
@@ -54,14 +54,16 @@ module _ (K : Value) (law : Lawful K) where
   xors-ok (suc n) f h = plus-ok (xorOf K n f) (f n) (xors-ok n f h) (h n)
 
   -- one summand moves by d
-  xors-move : (n : ℕ) (f g : ℕ → ℕ) → ((j : ℕ) → f j < K .many) → (j : ℕ) (d : ℕ) → d < K .many → j < n → g j ≡ K .plus (f j) d → ((i : ℕ) → i < n → i ≢ j → g i ≡ f i)
+  xors-move : (n : ℕ) (f g : ℕ → ℕ) → ((j : ℕ) → f j < K .many) → (j : ℕ) (d : ℕ) → d < K .many → j < n
+      → g j ≡ K .plus (f j) d → ((i : ℕ) → i < n → i ≢ j → g i ≡ f i)
       → xorOf K n g ≡ K .plus (xorOf K n f) d
   unfolding xorOf
   xors-move zero f g s j d k l e h = absurd (not-suc-le-zero l)
   xors-move (suc n) f g s j d k l e h =
       let o = xors-ok n f s in
       wire-cases n j
-      (λ q. ap₂ (K .plus) (xors-ext n g f (λ i k. h i (omega arith) (omega arith))) (ap g q ∙ e ∙ ap (λ (i : ℕ). K .plus (f i) d) (sym q)) ∙ sym (plus-assoc (xorOf K n f) (f n) d o (s n) k))
+      (λ q. ap₂ (K .plus) (xors-ext n g f (λ i k. h i (omega arith) (omega arith))) (ap g q ∙ e ∙ ap (λ (i : ℕ). K .plus (f i) d) (sym q))
+      ∙ sym (plus-assoc (xorOf K n f) (f n) d o (s n) k))
       (λ q. ap₂ (K .plus) (xors-move n f g s j d k (omega arith) e (λ i k. h i (omega arith))) (h n (omega arith) q)
       ∙ plus-assoc (xorOf K n f) d (f n) o k (s n) ∙ ap (K .plus (xorOf K n f)) (plus-comm d (f n) k (s n)) ∙ sym (plus-assoc (xorOf K n f) (f n) d o (s n) k))
 
@@ -78,7 +80,8 @@ module _ (K : Value) (law : Lawful K) where
   splitsTo S D x sec = all S (splitsAt D x sec)
 
   -- adding d to share j of secret i adds it to the secret
-  module _ (D : ℕ) (x : List ℕ) (sec sec′ : ℕ → ℕ) (i j : ℕ) (j<D : j < D) (d : ℕ) (d-ok : d < K .many) (sx : Small (K .many) x) (so : (k : ℕ) → sec k < K .many)
+  module _ (D : ℕ) (x : List ℕ) (sec sec′ : ℕ → ℕ) (i j : ℕ) (j<D : j < D) (d : ℕ) (d-ok : d < K .many)
+      (sx : Small (K .many) x) (so : (k : ℕ) → sec k < K .many)
       (here : sec′ i ≡ K .plus (sec i) d) (else : (k : ℕ) → k ≢ i → sec′ k ≡ sec k) (fits : i * D + j < length x) where
     abbrev x′ : List ℕ
     x′ = set x (i * D + j) (K .plus (getD x (i * D + j) 0) d)
@@ -123,7 +126,8 @@ module _ (K : Value) (law : Lawful K) where
         (sym (splits-move (R .D) x sec sec′ i j j<D d d-ok sx so here else (let f = inside in omega arith) (R .S)))
         (fixed K law R ok P L₀ σ₀ m sl L run x (to x) y
         (λ w l _. sym (getD-set-other x (i * R .D + j) w (K .plus (getD x (i * R .D + j) 0) d) 0 (λ q. dead (subst (Live (net R) P L) q l))))
-        sx (small-set (K .many) pos x (i * R .D + j) (K .plus (getD x (i * R .D + j) 0) d) sx (plus-ok (getD x (i * R .D + j) 0) d (sx (i * R .D + j)) d-ok)) sy F reads))
+        sx (small-set (K .many) pos x (i * R .D + j) (K .plus (getD x (i * R .D + j) 0) d) sx
+        (plus-ok (getD x (i * R .D + j) 0) d (sx (i * R .D + j)) d-ok)) sy F reads))
         ∙ slide (K .many) pos (R .S * R .D) (i * R .D + j) inside (λ xs v. K .plus v d) (λ xs v. refl) (λ xs _. plus-perm-l K law d d-ok) (part sec′)
       where
         part : (ℕ → ℕ) → List ℕ → ℕ
@@ -147,7 +151,8 @@ module _ (K : Value) (law : Lawful K) where
         (λ e. upd-same (mix sec sec′ n) n (sec′ n) k e ∙ ap sec′ (sym e))
         (λ q. upd-other (mix sec sec′ n) n (sec′ n) k q ∙ mix-is sec sec′ n k (omega arith))
 
-    module _ (spare : (i : ℕ) → i < R .S → (j : ℕ) × (j < R .D) × (Live (net R) P L (i * R .D + j) → ⊥)) (sec sec′ : ℕ → ℕ) (so : (k : ℕ) → sec k < K .many) (so′ : (k : ℕ) → sec′ k < K .many) where
+    module _ (spare : (i : ℕ) → i < R .S → (j : ℕ) × (j < R .D) × (Live (net R) P L (i * R .D + j) → ⊥))
+        (sec sec′ : ℕ → ℕ) (so : (k : ℕ) → sec k < K .many) (so′ : (k : ℕ) → sec′ k < K .many) where
       mix-ok : (n k : ℕ) → mix sec sec′ n k < K .many
       unfolding mix
       mix-ok zero k = so k
@@ -171,4 +176,5 @@ module _ (K : Value) (law : Lawful K) where
       secret-free =
           mixed (R .S) (le-refl (R .S))
           ∙ words-ext (K .many) pos (R .S * R .D) _ _
-          (λ x _ _. ap (λ (b : Bool). cond b (words (K .many) m (λ ρ. F (value K law R L₀ σ₀ x ρ y))) 0) (splits-ext (R .S) (R .D) x (mix sec sec′ (R .S)) sec′ (mix-is sec sec′ (R .S))))
+          (λ x _ _. ap (λ (b : Bool). cond b (words (K .many) m (λ ρ. F (value K law R L₀ σ₀ x ρ y))) 0)
+          (splits-ext (R .S) (R .D) x (mix sec sec′ (R .S)) sec′ (mix-is sec sec′ (R .S))))

@@ -1,4 +1,4 @@
--- The steps that are computed are steps of the rule, they go on to its end, and they are few.
+-- The steps that are computed are steps of the rule, they go on to its end, and they are few (3.22).
 use mathlib.Core.Path.{_≡_, refl, sym, ap, ap₂, _∙_, subst}
 use mathlib.Core.Bool.{Bool, true, false, not, _&&_, _||_, cond}
 use mathlib.Core.Logic.{_⊎_, inl, inr, _≢_, _↔_}
@@ -9,9 +9,11 @@ use native.Mathlib.Omega.{arith}
 use lib.Dec.{eqb}
 use lib.ListN.{length, set, length-set}
 use Rattle.document.specs.Basics.{tally, all, elem, Marks, at, mark}
-use Rattle.document.specs.Routine.{Routine, size}
-use Rattle.document.specs.Padding.{operands, live, pads, consumes, onlyConsumer, serves, padsBy, canPad, firstPad, lowestPad, nextStep, stepped, goOn, stepsFrom, paddedWires}
-use Rattle.document.specs.Laws.Tests.{clash, out-of, and-l, and-r, and-i, not-t, or-cases, or-l, or-r, eqb-true, true-eqb, wire-cases, all-at, all-of, tally-more, tally-max, Mem, elem→, elem←}
+use Rattle.document.specs.Routine.{Routine, size, operands}
+use Rattle.document.specs.Padding.{live, pads, consumes, onlyConsumer, serves, padsBy, canPad}
+use Rattle.document.specs.Padding.{firstPad, lowestPad, nextStep, stepped, goOn, stepsFrom, paddedWires}
+use Rattle.document.specs.Laws.Tests.{clash, out-of, and-l, and-r, and-i, not-t, or-cases, or-l, or-r, eqb-true, true-eqb}
+use Rattle.document.specs.Laws.Tests.{wire-cases, all-at, all-of, tally-more, tally-max, Mem, elem→, elem←}
 use Rattle.document.specs.Laws.Marks.{In, Out, add, set-keeps, set-marks, set-add}
 use Rattle.document.specs.Laws.Rule.{Live, Step, Run, step, Final}
 use Rattle.document.specs.Laws.Live.{net, pad-op-of, Earlier, Within, live-is}
@@ -30,7 +32,8 @@ module _ (R : Routine) (ok : Earlier R) (ends : Within R) (P L : Marks) (long : 
   unfolding onlyConsumer consumes
   alone w r e u l o q =
       or-cases (eqb u w) (not (consumes R L alive r u)) (all-at (size R) (λ u. eqb u w || not (consumes R L alive r u)) e u (ends u r q)) (eqb-true u w)
-      (λ z. clash (and-i (at alive u && not (at L u)) (elem r (operands R u)) (and-i (at alive u) (not (at L u)) (marks u .1 l) (ap not o)) (elem← r (operands R u) q))
+      (λ z. clash (and-i (at alive u && not (at L u)) (elem r (operands R u))
+      (and-i (at alive u) (not (at L u)) (marks u .1 l) (ap not o)) (elem← r (operands R u) q))
       (not-t (consumes R L alive r u) z))
 
   pub step→ : (w r : ℕ) → canPad R P L w r ≡ true → Step (net R) (at P) (at L) w r
@@ -65,7 +68,8 @@ module _ (R : Routine) (ok : Earlier R) (ends : Within R) (P L : Marks) (long : 
 never : {X : Type 0} (s : Pair) → some s ≡ none → X
 never s e = let z : _≡_ {A = ℕ} 0 1 = cc in absurd (omega arith)
 
-first-some : (f : ℕ → Bool) (w : ℕ) (rs : List ℕ) (later : Option Pair) (s : Pair) → firstPad f w rs later ≡ some s → ((s .w ≡ w) × (f (s .r) ≡ true)) ⊎ (later ≡ some s)
+first-some : (f : ℕ → Bool) (w : ℕ) (rs : List ℕ) (later : Option Pair) (s : Pair) → firstPad f w rs later ≡ some s
+    → ((s .w ≡ w) × (f (s .r) ≡ true)) ⊎ (later ≡ some s)
 unfolding firstPad
 first-some f w [] later s e = inr e
 first-some f w (r ∷ rs) later s e = go (f r) refl e (first-some f w rs later s)
@@ -90,7 +94,8 @@ unfolding lowestPad
 lowest-some R f zero w s e = never s (sym e)
 lowest-some R f (suc m) w s e = go (first-some (f w) w (pads R w) (lowestPad R f m (suc w)) s e) (lowest-some R f m (suc w) s)
   where
-    go : ((s .w ≡ w) × (f w (s .r) ≡ true)) ⊎ (lowestPad R f m (suc w) ≡ some s) → (lowestPad R f m (suc w) ≡ some s → f (s .w) (s .r) ≡ true) → f (s .w) (s .r) ≡ true
+    go : ((s .w ≡ w) × (f w (s .r) ≡ true)) ⊎ (lowestPad R f m (suc w) ≡ some s)
+        → (lowestPad R f m (suc w) ≡ some s → f (s .w) (s .r) ≡ true) → f (s .w) (s .r) ≡ true
     go (inl p) rest = ap (λ (v : ℕ). f v (s .r)) (p .0) ∙ p .1
     go (inr p) rest = rest p
 
@@ -143,24 +148,26 @@ module _ (R : Routine) (ok : Earlier R) (ends : Within R) (P : Marks) (long : si
   next-none : (L : Marks) → nextStep R P L ≡ none → Final (net R) (at P) (at L)
   unfolding nextStep canPad
   next-none L e w r s =
-      clash (step← R ok ends P L long w r s) (lowest-none R (padsBy R P L (live R P L)) (size R) 0 e w r zero-le (let z = padded-below L w r s in omega arith) (s .pads))
+      clash (step← R ok ends P L long w r s)
+      (lowest-none R (padsBy R P L (live R P L)) (size R) 0 e w r zero-le (let z = padded-below L w r s in omega arith) (s .pads))
 
-  pub ended : (L₀ : Marks) (k : ℕ) (L : Marks) → size R ≤ length L → left R L ≤ k → Run (net R) (at P) (at L₀) (at L) → Ended R P L₀ (leavesAfter (stepsFrom R P k L) L)
+  pub ended : (L₀ : Marks) (k : ℕ) (L : Marks) → size R ≤ length L → left R L ≤ k → Run (net R) (at P) (at L₀) (at L)
+      → Ended R P L₀ (leavesAfter (stepsFrom R P k L) L)
   unfolding stepsFrom goOn mark
   ended L₀ zero L l h run = record {
     run = run;
     final = λ w r s. none-left R L w (padded-below L w r s) (omega arith) (s .inner);
   }
-  ended L₀ (suc k) L l h run = go (nextStep R P L) refl (λ w. ended L₀ k (set L w true))
+  ended L₀ (suc k) L l h run = go (nextStep R P L) refl (ended L₀ k)
     where
       go : (o : Option Pair) → nextStep R P L ≡ o
-          → ((w : ℕ) → size R ≤ length (set L w true) → left R (set L w true) ≤ k → Run (net R) (at P) (at L₀) (at (set L w true)) → Ended R P L₀ (leavesAfter (stepsFrom R P k (set L w true)) (set L w true)))
+          → ((M : Marks) → size R ≤ length M → left R M ≤ k → Run (net R) (at P) (at L₀) (at M) → Ended R P L₀ (leavesAfter (stepsFrom R P k M) M))
           → Ended R P L₀ (leavesAfter (goOn (stepsFrom R P k) L o) L)
       go none e rest = record { run = run; final = next-none L e }
       go (some s) e rest =
           let st = next-step L s e in
           let b = padded-below L (s .w) (s .r) st in
-          rest (s .w) (rw length-set l) (let d = left-less R L (s .w) b l (st .inner) in omega arith)
+          rest (set L (s .w) true) (rw length-set l) (let d = left-less R L (s .w) b l (st .inner) in omega arith)
           (subst (Run (net R) (at P) (at L₀)) (sym (set-add L (s .w) (omega arith))) (step run st))
 
 -- ---- how many steps there are
@@ -185,7 +192,8 @@ module _ (R : Routine) (ok : Earlier R) (ends : Within R) (P : Marks) (long : si
   room-less L w r l s =
       let b = padded-below R ok ends P long L w r s in
       tally-more (size R) (λ u. not (at (set L w true) u) && hasPad (pads R u)) (λ u. not (at L u) && hasPad (pads R u)) w b
-      (ap (_&& hasPad (pads R w)) (ap not (set-marks L w w refl (omega arith)))) (and-i (not (at L w)) (hasPad (pads R w)) (ap not (s .inner)) (has-pad (pads R w) r (s .pads)))
+      (ap (_&& hasPad (pads R w)) (ap not (set-marks L w w refl (omega arith))))
+      (and-i (not (at L w)) (hasPad (pads R w)) (ap not (s .inner)) (has-pad (pads R w) r (s .pads)))
       (λ k _ e. and-i (not (at L k)) (hasPad (pads R k))
       (ap not (out-of (λ i. clash (set-keeps L w k i) (not-t (at (set L w true) k) (and-l (not (at (set L w true) k)) (hasPad (pads R k)) e)))))
       (and-r (not (at (set L w true) k)) (hasPad (pads R k)) e))

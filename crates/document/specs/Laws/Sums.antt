@@ -8,6 +8,7 @@ use native.Mathlib.Nat.{not-suc-le-zero, le-of-suc-le-suc}
 use native.Mathlib.Omega.{arith}
 use lib.Dec.{eqb}
 use lib.ListN.{length, getD, set}
+use Rattle.document.specs.Starts.{Small}
 use Rattle.document.specs.Laws.Tests.{bool-cases, cond-true, cond-false, eqb-true, true-eqb, out-of, wire-cases}
 
 -- ---- one changed place of a function
@@ -93,8 +94,10 @@ total-perm (suc n) π p f = wire-cases (π n) n
     let moved = total-perm n (around n π) (record {
       stays = λ v l. let a = p .stays v (omega arith) in around-cases n π v (λ _ q. omega arith) (λ d q. omega arith);
       apart = λ u v l m q. around-cases n π u
-          (λ a x. around-cases n π v (λ b y. p .apart u v (omega arith) (omega arith) (a ∙ sym b)) (λ b y. let z = p .apart n v (omega arith) (omega arith) (sym x ∙ q ∙ y) in absurd (omega arith)))
-          (λ a x. around-cases n π v (λ b y. let z = p .apart u n (omega arith) (omega arith) (sym x ∙ q ∙ y) in absurd (omega arith)) (λ b y. p .apart u v (omega arith) (omega arith) (sym x ∙ q ∙ y)));
+          (λ a x. around-cases n π v (λ b y. p .apart u v (omega arith) (omega arith) (a ∙ sym b))
+          (λ b y. let z = p .apart n v (omega arith) (omega arith) (sym x ∙ q ∙ y) in absurd (omega arith)))
+          (λ a x. around-cases n π v (λ b y. let z = p .apart u n (omega arith) (omega arith) (sym x ∙ q ∙ y) in absurd (omega arith))
+          (λ b y. p .apart u v (omega arith) (omega arith) (sym x ∙ q ∙ y)));
     }) (upd f (π n) (f n)) in
     let same = total-ext n (λ v. upd f (π n) (f n) (around n π v)) (λ v. f (π v)) (λ v l. around-cases n π v
     (λ a x. upd-same f (π n) (f n) (around n π v) x ∙ ap f (sym a))
@@ -107,10 +110,6 @@ total-perm (suc n) π p f = wire-cases (π n) n
 unfoldable pub words : ℕ → ℕ → (List ℕ → ℕ) → ℕ
 words b zero f = f []
 words b (suc m) f = total b (λ v. words b m (λ xs. f (v ∷ xs)))
-
--- a word of values
-abbrev pub Small : ℕ → List ℕ → Type 0
-Small b xs = (k : ℕ) → getD xs k 0 < b
 
 module _ (b : ℕ) (pos : 0 < b) where
   small-nil : Small b []
@@ -144,10 +143,12 @@ module _ (b : ℕ) (pos : 0 < b) where
   unfolding words
   slide zero s h π i p F = absurd (not-suc-le-zero h)
   slide (suc m) zero h π i p F =
-      total-ext b _ _ (λ v _. words-ext m (λ xs. F (π (v ∷ xs) v ∷ xs)) (λ xs. F (π (0 ∷ xs) v ∷ xs)) (λ xs _ _. ap (λ (q : ℕ → ℕ). F (q v ∷ xs)) (i (0 ∷ xs) v)))
+      total-ext b _ _ (λ v _. words-ext m (λ xs. F (π (v ∷ xs) v ∷ xs)) (λ xs. F (π (0 ∷ xs) v ∷ xs))
+      (λ xs _ _. ap (λ (q : ℕ → ℕ). F (q v ∷ xs)) (i (0 ∷ xs) v)))
       ∙ words-swap m (λ v xs. F (π (0 ∷ xs) v ∷ xs))
       ∙ words-ext m (λ xs. total b (λ v. F (π (0 ∷ xs) v ∷ xs))) (λ xs. total b (λ v. F (v ∷ xs)))
       (λ xs _ s. total-perm b (π (0 ∷ xs)) (p (0 ∷ xs) (small-cons 0 xs pos s)) (λ v. F (v ∷ xs)))
       ∙ sym (words-swap m (λ v xs. F (v ∷ xs)))
   slide (suc m) (suc s) h π i p F =
-      total-ext b _ _ (λ v l. slide m s (le-of-suc-le-suc h) (λ xs. π (v ∷ xs)) (λ xs u. i (v ∷ xs) u) (λ xs q. p (v ∷ xs) (small-cons v xs l q)) (λ xs. F (v ∷ xs)))
+      total-ext b _ _ (λ v l. slide m s (le-of-suc-le-suc h) (λ xs. π (v ∷ xs)) (λ xs u. i (v ∷ xs) u)
+      (λ xs q. p (v ∷ xs) (small-cons v xs l q)) (λ xs. F (v ∷ xs)))

@@ -10,12 +10,13 @@ use lib.Arith.{bin-ind}
 use lib.Bits.{bitXor, bitAnd, differ, xor-step, xor-shr, xor-mod, xor-comm, xor-lt, and-lt, xor-self, xor-zero-l}
 use lib.Dec.{eqb, lit<}
 use lib.ListN.{length, getD}
-use Rattle.document.specs.Routine.{Routine, wire, randsBefore, pubsBefore}
+use Rattle.document.specs.Routine.{Routine, wire, randsBefore, pubsBefore, operandsOf, operands}
 use Rattle.document.specs.Running.{Value, bit, gives, valueAt}
-use Rattle.document.specs.Padding.{operandsOf, operands, padsOf, pads}
+use Rattle.document.specs.Padding.{padsOf, pads}
 use Rattle.document.specs.Laws.Tests.{bool-cases, true-eqb, clash, wire-cases, Mem}
 use Rattle.document.specs.Laws.Marks.{Set, In, Out}
-use Rattle.document.specs.Laws.Sums.{upd, upd-same, upd-other, Perm, perm-ext, Small}
+use Rattle.document.specs.Laws.Sums.{upd, upd-same, upd-other, Perm, perm-ext}
+use Rattle.document.specs.Starts.{Small}
 use Rattle.document.specs.Laws.Live.{Earlier}
 use Rattle.document.specs.declared.Kind.{Kind}
 use Rattle.document.specs.declared.Kind.the-variants.{Share, Rand, Pub, Xor, And, Not}
@@ -53,7 +54,8 @@ xor-assoc = bin-ind (λ (a : ℕ). (b c : ℕ) → bitXor (bitXor a b) c ≡ bit
     xor-step (bitXor a b) c
     ∙ ap₂ (λ (x y : ℕ). x * 2 + y)
     (ap (λ (x : ℕ). bitXor x (c / 2)) (xor-shr a b 1) ∙ ih (b / 2) (c / 2) ∙ ap (bitXor (a / 2)) (sym (xor-shr b c 1)))
-    (ap (λ (x : ℕ). differ x (c % 2)) (xor-mod a b 1) ∙ digit (a % 2) (b % 2) (c % 2) (mod-lt a (zero-lt-suc 1)) (mod-lt b (zero-lt-suc 1)) (mod-lt c (zero-lt-suc 1))
+    (ap (λ (x : ℕ). differ x (c % 2)) (xor-mod a b 1)
+    ∙ digit (a % 2) (b % 2) (c % 2) (mod-lt a (zero-lt-suc 1)) (mod-lt b (zero-lt-suc 1)) (mod-lt c (zero-lt-suc 1))
     ∙ ap (differ (a % 2)) (sym (xor-mod b c 1)))
     ∙ sym (xor-step a (bitXor b c)))
 
@@ -95,7 +97,8 @@ module _ (K : Value) (law : Lawful K) where
   gives-ok Not s r p a b hs hr hp ha hb = turn-ok a ha
 
   -- it reads its operands only
-  gives-ext : (k : Kind) (x y s r p : ℕ) (e e′ : ℕ → ℕ) → ((v : ℕ) → Mem v (operandsOf k x y) → e v ≡ e′ v) → gives K k s r p (e x) (e y) ≡ gives K k s r p (e′ x) (e′ y)
+  gives-ext : (k : Kind) (x y s r p : ℕ) (e e′ : ℕ → ℕ) → ((v : ℕ) → Mem v (operandsOf k x y) → e v ≡ e′ v)
+      → gives K k s r p (e x) (e y) ≡ gives K k s r p (e′ x) (e′ y)
   unfolding gives operandsOf
   gives-ext Share x y s r p e e′ h = refl
   gives-ext Rand x y s r p e e′ h = refl
@@ -155,7 +158,9 @@ module _ (K : Value) (law : Lawful K) where
 
     pub inner-ok : (x y : List ℕ) (e : ℕ → ℕ) (w : ℕ) → Small (K .many) x → Small (K .many) y → ((v : ℕ) → e v < K .many) → innerValue x y e w < K .many
     unfolding valueAt
-    inner-ok x y e w sx sy h = gives-ok (wire R w .kind) (getD x w 0) 0 (getD y (pubsBefore R w) 0) (e (wire R w .a)) (e (wire R w .b)) (sx w) pos (sy (pubsBefore R w)) (h (wire R w .a)) (h (wire R w .b))
+    inner-ok x y e w sx sy h =
+        gives-ok (wire R w .kind) (getD x w 0) 0 (getD y (pubsBefore R w) 0) (e (wire R w .a)) (e (wire R w .b))
+        (sx w) pos (sy (pubsBefore R w)) (h (wire R w .a)) (h (wire R w .b))
 
     pub inner-perm : (x y : List ℕ) (w r : ℕ) → Mem r (pads R w) → (e : ℕ → ℕ) → ((v : ℕ) → e v < K .many) → Perm (K .many) (λ v. innerValue x y (upd e r v) w)
     unfolding valueAt pads

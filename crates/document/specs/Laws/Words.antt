@@ -32,7 +32,9 @@ ones-word (suc m) f = ones-cat m (one (f m)) (word m f) (word-lt m f) ∙ ap₂ 
 word-cat : (k d : ℕ) (f : ℕ → Bool) → word (k + d) f ≡ word d (λ j. f (k + j)) * 2 ^ k + word k f
 unfolding word
 word-cat k zero f = rw add-zero (omega arith)
-word-cat k (suc d) f = rw add-suc (rw (word-cat k d f) (let q = times (one (f (k + d))) (2 ^ (k + d)) (2 ^ d) (2 ^ k) (pow-add 2 k d ∙ mul-comm (2 ^ k) (2 ^ d)) in omega arith))
+word-cat k (suc d) f =
+    let q = times (one (f (k + d))) (2 ^ (k + d)) (2 ^ d) (2 ^ k) (pow-add 2 k d ∙ mul-comm (2 ^ k) (2 ^ d)) in
+    rw add-suc (rw (word-cat k d f) (omega arith))
   where
     times : (a p x y : ℕ) → p ≡ x * y → a * p ≡ a * x * y
     times a p x y e = ap (λ (z : ℕ). a * z) e ∙ sym (mul-assoc a x y)

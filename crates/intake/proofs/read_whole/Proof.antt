@@ -69,7 +69,8 @@ more c =
     let s = called .before .before .before .before .before in
     let loop = s .before .loop in
     let part = midOf (loop .done) (length (loop .buf) - loop .done) (loop .buf) in
-    let bounds = more-bounded (loop .done) (length part) (read .result) (c .before .stand .given .0 .0) (read .ensures) (sym (stands called) ∙ c .before .stand .given .1) in
+    let bounds = more-bounded (loop .done) (length part) (read .result) (c .before .stand .given .0 .0) (read .ensures)
+    (sym (stands called) ∙ c .before .stand .given .1) in
     omega (arith, bounds, room s)
 
 loop-less : tie.Need-loop-less Inv-loop μ-loop
@@ -92,7 +93,8 @@ all c =
     let read = called .before .before .before .read in
     let loop = called .before .before .before .before .before .before .loop in
     let part = midOf (loop .done) (length (loop .buf) - loop .done) (loop .buf) in
-    let same = all-before (loop .done) (length part) (read .result) (c .before .stand2 .given .0 .0) (read .ensures) (sym (stands called) ∙ c .before .stand2 .given .1) in
+    let same = all-before (loop .done) (length part) (read .result) (c .before .stand2 .given .0 .0) (read .ensures)
+    (sym (stands called) ∙ c .before .stand2 .given .1) in
     omega (arith, same)
 
 returns : tie.Need-returns Inv-loop μ-loop

@@ -35,7 +35,8 @@ returns-2 c =
 returns-3 : tie.Need-returns-3
 returns-3 c =
     let s = c .before .before in
-    neither-all (s .args .done) (toZ w64 (ofZ w64 (s .args .answer))) (c .before .if1 .left) (c .if2 .left) ∙ ap (afterRead (s .args .done)) (toZ-ofZ (s .fits .answer))
+    neither-all (s .args .done) (toZ w64 (ofZ w64 (s .args .answer))) (c .before .if1 .left) (c .if2 .left)
+    ∙ ap (afterRead (s .args .done)) (toZ-ofZ (s .fits .answer))
 
 pub stand-after-spec : {M : Type 1} → statement M
 stand-after-spec = tie.close (tie.spec cast-t4 add-t5 returns returns-2 returns-3)

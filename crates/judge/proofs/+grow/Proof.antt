@@ -9,19 +9,19 @@ use borrow.Fn.PlainCycle.{Measures, is, falls, and}
 use Rattle.document.specs.ProbeSets.{held}
 use Rattle.judge.proofs.+grow.{statement}
 use Rattle.judge.proofs.+grow.Tie.{close}
-use Rattle.judge.specs.Growing.{opensIn}
-use Rattle.judge.specs.Skipping.{reached, turn-end, turn-more, turn-hit, turn-rest, turn-miss}
-use Rattle.judge.specs.Turns.{falls-both, falls-wires, grow-leaf, few-wires, leaf-asked, leaf-counted}
+use Rattle.growing.specs.Growing.{opensIn}
+use Rattle.judge.specs.Laws.Skipping.{reached, turn-end, turn-more, turn-hit, turn-rest, turn-miss}
+use Rattle.judge.specs.Laws.Turns.{falls-both, falls-wires, grow-leaf, few-wires, leaf-asked, leaf-counted}
 use Rattle.judge.proofs.grow.Reads as grow
 use Rattle.judge.proofs.grow.Kinds as grow-kinds
 use Rattle.judge.proofs.+grow.Lts-grow as grow-lts
-use Rattle.judge.proofs.grown_by.Reads as grown-by-reads
-use Rattle.judge.proofs.judge_set.Reads as judge-set-reads
-use Rattle.judge.proofs.next_wire.Reads as next-wire-reads
-use Rattle.judge.proofs.nothing_found.Reads as nothing-found-reads
+use Rattle.growing.proofs.grown_by.Reads as grown-by-reads
+use Rattle.growing.proofs.judge_set.Reads as judge-set-reads
+use Rattle.growing.proofs.next_wire.Reads as next-wire-reads
+use Rattle.growing.proofs.nothing_found.Reads as nothing-found-reads
 
 abbrev μ-grow : Measures 3 grow-kinds.ps ℕ
-μ-grow κs a = a .0 * (a .1 .1 .0 .n - a .1 .0)
+μ-grow κs a = a .1 .1 .0 * (a .0 .listing .shape .n - a .1 .1 .1 .0)
 
 abbrev grow-at : ℕ → In 3 grow-kinds.ps
 grow-at t = and 3 grow-kinds.ps (is 3 grow-kinds.ps μ-grow t) grow.Pre
@@ -48,7 +48,8 @@ grow-judge-set-requires : (t : ℕ) → grow-lts.Need-judge-set-requires (claims
 grow-judge-set-requires t c κs = (leaf-asked (c .before .pre .1) (c .if1 .taken), leaf-counted (c .before .pre .1) (c .if1 .taken))
 
 grow-returns : (t : ℕ) → grow-lts.Need-returns (claims t) (grow-at t) grow.Post
-grow-returns t c = let a = c .before .before .args in c .judge-set .ensures ∙ sym (grow-leaf (opensIn (a .q)) (a .places) (a .q .n - a .from) (a .from) (held (a .g .set)) (a .count) (c .before .if1 .taken))
+grow-returns t c = let a = c .before .before .args in c .judge-set .ensures
+    ∙ sym (grow-leaf (opensIn (a .q)) (a .places) (a .q .listing .shape .n - a .from) (a .from) (held (a .g .set)) (a .count) (c .before .if1 .taken))
 
 grow-next-wire-requires : (t : ℕ) → grow-lts.Need-next-wire-requires (claims t) (grow-at t) grow.Post
 grow-next-wire-requires t c κs = ((c .before .pre .1) .below, few-wires (c .before .pre .1))
@@ -63,66 +64,75 @@ grow-nothing-found-requires : (t : ℕ) → grow-lts.Need-nothing-found-requires
 grow-nothing-found-requires t c κs = search needs
 
 grow-returns-2 : (t : ℕ) → grow-lts.Need-returns-2 (claims t) (grow-at t) grow.Post
-grow-returns-2 t c = turn-end (c .before .before .before .before .before .pre .1) (c .before .before .before .next-wire .ensures) (pos-of-ne-zero (c .before .before .before .before .if1 .left)) (c .before .if2 .taken) _ (c .nothing-found .ensures)
+grow-returns-2 t c = turn-end (c .before .before .before .before .pre .1) (c .before .before .next-wire .ensures)
+    (pos-of-ne-zero (c .before .before .before .if1 .left)) (c .before .if2 .taken) _ (c .nothing-found .ensures)
 
 grow-sub-fewer : (t : ℕ) → grow-lts.Need-sub-fewer (claims t) (grow-at t) grow.Post
-grow-sub-fewer t c = pos-of-ne-zero (c .before .before .before .if1 .left)
+grow-sub-fewer t c = pos-of-ne-zero (c .before .before .if1 .left)
 
 grow-add-next : (t : ℕ) → grow-lts.Need-add-next (claims t) (grow-at t) grow.Post
-grow-add-next t c = omega (arith, few-wires (c .before .before .before .before .pre .1), c .if2 .left)
+grow-add-next t c = omega (arith, few-wires (c .before .before .before .pre .1), c .if2 .left)
 
 grow-mul-grown-by : (t : ℕ) → grow-lts.Need-mul-grown-by (claims t) (grow-at t) grow.Post
-grow-mul-grown-by t c = omega (arith, few-wires (c .before .before .before .before .pre .1), c .if2 .left)
+grow-mul-grown-by t c = omega (arith, few-wires (c .before .before .before .pre .1), c .if2 .left)
 
 grow-element-copy-out-grown-by : (t : ℕ) → grow-lts.Need-element-copy-out-grown-by (claims t) (grow-at t) grow.Post
-grow-element-copy-out-grown-by t c = omega (arith, few-wires (c .before .before .before .before .pre .1), c .if2 .left)
+grow-element-copy-out-grown-by t c = omega (arith, few-wires (c .before .before .before .pre .1), c .if2 .left)
 
 grow-mul-grown-by-2 : (t : ℕ) → grow-lts.Need-mul-grown-by-2 (claims t) (grow-at t) grow.Post
-grow-mul-grown-by-2 t c = omega (arith, few-wires (c .before .before .before .before .before .pre .1), c .before .if2 .left)
+grow-mul-grown-by-2 t c = omega (arith, few-wires (c .before .before .before .before .pre .1), c .before .if2 .left)
 
 grow-element-copy-out-grown-by-2 : (t : ℕ) → grow-lts.Need-element-copy-out-grown-by-2 (claims t) (grow-at t) grow.Post
-grow-element-copy-out-grown-by-2 t c = omega (arith, few-wires (c .before .before .before .before .before .pre .1), c .before .if2 .left)
+grow-element-copy-out-grown-by-2 t c = omega (arith, few-wires (c .before .before .before .before .pre .1), c .before .if2 .left)
 
 grow-mul-grown-by-3 : (t : ℕ) → grow-lts.Need-mul-grown-by-3 (claims t) (grow-at t) grow.Post
-grow-mul-grown-by-3 t c = omega (arith, few-wires (c .before .before .before .before .before .before .pre .1), c .before .before .if2 .left)
+grow-mul-grown-by-3 t c = omega (arith, few-wires (c .before .before .before .before .before .pre .1), c .before .before .if2 .left)
 
 grow-element-copy-out-grown-by-3 : (t : ℕ) → grow-lts.Need-element-copy-out-grown-by-3 (claims t) (grow-at t) grow.Post
-grow-element-copy-out-grown-by-3 t c = omega (arith, few-wires (c .before .before .before .before .before .before .pre .1), c .before .before .if2 .left)
+grow-element-copy-out-grown-by-3 t c = omega (arith, few-wires (c .before .before .before .before .before .pre .1), c .before .before .if2 .left)
 
 grow-grown-by-requires : (t : ℕ) → grow-lts.Need-grown-by-requires (claims t) (grow-at t) grow.Post
-grow-grown-by-requires t c κs = let S = c .before .before .before .before .before .before .before .pre .1 in (let r = S .room in let h = c .before .before .before .before .before .before .if1 .left in omega arith, omega (arith, few-wires S, c .before .before .before .if2 .left), S .grows .whole)
+grow-grown-by-requires t c κs = let S = c .before .before .before .before .before .before .pre .1 in (
+  let r = S .room in let h = c .before .before .before .before .before .if1 .left in
+      omega arith,
+  omega (arith, few-wires S, c .before .before .before .if2 .left),
+  S .grows .whole,
+)
 
 grow-grow-requires : (t : ℕ) → grow-lts.Need-grow-requires (claims t) (grow-at t) grow.Post
 grow-grow-requires t c κs =
-    let s = c .before .before .before .before .before .before .before .before in
-    let w = c .before .before .before .before .before .before .next-wire in
-    let h = pos-of-ne-zero (c .before .before .before .before .before .before .before .if1 .left) in
+    let s = c .before .before .before .before .before .before .before in
+    let w = c .before .before .before .before .before .next-wire in
+    let h = pos-of-ne-zero (c .before .before .before .before .before .before .if1 .left) in
     let l = c .before .before .before .before .if2 .left in
     (falls-both _ _ _ _ _ (s .pre .0) h (w .ensures .since) l, turn-more (s .pre .1) (w .ensures) h l _ (c .grown-by .ensures))
 
 grow-returns-3 : (t : ℕ) → grow-lts.Need-returns-3 (claims t) (grow-at t) grow.Post
 grow-returns-3 t c =
-    let s = c .before .before .before .before .before .before .before .before .before .before in
-    let w = c .before .before .before .before .before .before .before .before .next-wire in
-    let h = pos-of-ne-zero (c .before .before .before .before .before .before .before .before .before .if1 .left) in
+    let s = c .before .before .before .before .before .before .before .before .before in
+    let w = c .before .before .before .before .before .before .before .next-wire in
+    let h = pos-of-ne-zero (c .before .before .before .before .before .before .before .before .if1 .left) in
     let l = c .before .before .before .before .before .before .if2 .left in
     turn-hit (s .pre .1) (w .ensures) h l _ (c .before .before .grown-by .ensures) _ (c .before .grow .ensures) (c .if3 .taken)
 
 grow-grow-requires-2 : (t : ℕ) → grow-lts.Need-grow-requires-2 (claims t) (grow-at t) grow.Post
 grow-grow-requires-2 t c κs =
-    let s = c .before .before .before .before .before .before .before .before .before .before in
-    let w = c .before .before .before .before .before .before .before .before .next-wire in
-    let h = pos-of-ne-zero (c .before .before .before .before .before .before .before .before .before .if1 .left) in
-    let l = c .before .before .before .before .before .before .if2 .left in
-    (falls-wires _ _ _ _ _ (s .pre .0) h (w .ensures .since) l, turn-rest (s .pre .1) (w .ensures) h l _ (c .before .before .grown-by .ensures) _ (c .before .grow .ensures))
+    let s = c .before .before .before .before .before .before .before .before .before in
+    let w = c .before .before .before .before .before .before .before .next-wire in
+    let h = pos-of-ne-zero (c .before .before .before .before .before .before .before .before .if1 .left) in
+    let l = c .before .before .before .before .before .before .if2 .left in (
+      falls-wires _ _ _ _ _ (s .pre .0) h (w .ensures .since) l,
+      turn-rest (s .pre .1) (w .ensures) h l _ (c .before .before .grown-by .ensures) _ (c .before .grow .ensures),
+    )
 
 grow-returns-4 : (t : ℕ) → grow-lts.Need-returns-4 (claims t) (grow-at t) grow.Post
 grow-returns-4 t c =
-    let s = c .before .before .before .before .before .before .before .before .before .before .before in
-    let w = c .before .before .before .before .before .before .before .before .before .next-wire in
-    let h = pos-of-ne-zero (c .before .before .before .before .before .before .before .before .before .before .if1 .left) in
+    let s = c .before .before .before .before .before .before .before .before .before .before in
+    let w = c .before .before .before .before .before .before .before .before .next-wire in
+    let h = pos-of-ne-zero (c .before .before .before .before .before .before .before .before .before .if1 .left) in
     let l = c .before .before .before .before .before .before .before .if2 .left in
-    turn-miss (s .pre .1) (w .ensures) h l _ (c .before .before .before .grown-by .ensures) _ (c .before .before .grow .ensures) (c .before .if3 .left) _ (c .grow2 .ensures)
+    turn-miss (s .pre .1) (w .ensures) h l _ (c .before .before .before .grown-by .ensures) _ (c .before .before .grow .ensures) (c .before .if3 .left) _
+    (c .grow2 .ensures)
 
 pub +grow-spec : {M : Type 1} → statement M
 +grow-spec = close μ-grow λ t. grow-lts.spec (claims t) (grow-at t) grow.Post

@@ -9,11 +9,13 @@ use Rattle.judge.proofs.answer_of.Tie as tie
 
 returns : tie.Need-returns
 unfolding answerOf
-returns c = let f = c .before .before .args .found in sym (ap {B = Judged} (λ (b : Bool). record { verdict = cond b (Says.Open (f .count)) (Says.Pass (f .count)); set = f .set }) (c .if1 .taken))
+returns c = let f = c .before .before .args .found in
+    sym (ap {B = Judged} (λ (b : Bool). record { verdict = cond b (Says.Open (f .count)) (Says.Pass (f .count)); set = f .set }) (c .if1 .taken))
 
 returns-2 : tie.Need-returns-2
 unfolding answerOf
-returns-2 c = let f = c .before .before .args .found in sym (ap {B = Judged} (λ (b : Bool). record { verdict = cond b (Says.Open (f .count)) (Says.Pass (f .count)); set = f .set }) (c .if1 .left))
+returns-2 c = let f = c .before .before .args .found in
+    sym (ap {B = Judged} (λ (b : Bool). record { verdict = cond b (Says.Open (f .count)) (Says.Pass (f .count)); set = f .set }) (c .if1 .left))
 
 pub answer-of-spec : {M : Type 1} → statement M
 answer-of-spec = tie.close (tie.spec returns returns-2)

@@ -16,7 +16,10 @@ of-two-requires : tie.Need-of-two-requires
 of-two-requires c κs = search needs
 
 returns : tie.Need-returns
-returns c = rw (c .before .before .before .before .part .ensures .last (c .before .if1 .taken), ← c .before .before .before .head .ensures, ← c .before .before .number-of .ensures) (c .of-two .ensures)
+returns c =
+    let n = c .before .before in
+    let h = n .before in
+    rw (h .before .part .ensures .last (c .before .if1 .taken), ← h .head .ensures, ← n .number-of .ensures) (c .of-two .ensures)
 
 add-tail : tie.Need-add-tail
 add-tail c = search needs
@@ -28,7 +31,11 @@ after-second-requires : tie.Need-after-second-requires
 after-second-requires c κs = search needs
 
 returns-2 : tie.Need-returns-2
-returns-2 c = rw (c .before .before .before .before .before .part .ensures .more (c .before .before .if1 .left), ← c .before .before .before .before .head .ensures, ← c .before .before .before .number-of .ensures, ← c .before .tail .ensures) (c .after-second .ensures)
+returns-2 c =
+    let t = c .before in
+    let n = t .before .before in
+    let h = n .before in
+    rw (h .before .part .ensures .more (t .before .if1 .left), ← h .head .ensures, ← n .number-of .ensures, ← t .tail .ensures) (c .after-second .ensures)
 
 pub after-first-spec : {M : Type 1} → statement M
 after-first-spec =

@@ -22,7 +22,10 @@ of-three-requires : tie.Need-of-three-requires
 of-three-requires c κs = search needs
 
 returns-2 : tie.Need-returns-2
-returns-2 c = rw (c .before .before .before .before .part .ensures .last (omega arith), ← c .before .before .head .ensures, ← c .before .number-of .ensures) (c .of-three .ensures)
+returns-2 c =
+    let n = c .before in
+    let h = n .before in
+    rw (h .before .before .part .ensures .last (omega arith), ← h .head .ensures, ← n .number-of .ensures) (c .of-three .ensures)
 
 pub after-second-spec : {M : Type 1} → statement M
 after-second-spec =

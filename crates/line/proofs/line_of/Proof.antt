@@ -29,7 +29,13 @@ after-word-requires : tie.Need-after-word-requires
 after-word-requires c κs = search needs
 
 returns-2 : tie.Need-returns-2
-returns-2 c = rw (c .before .before .before .before .before .part .ensures .more (c .before .before .before .before .if1 .left), by-field, ← c .before .before .before .head .ensures, ← c .before .before .word-of .ensures, ← c .before .tail .ensures) (c .after-word .ensures)
+returns-2 c =
+    let t = c .before in
+    let w = t .before in
+    let h = w .before in
+    let i = h .before in
+    rw (i .before .part .ensures .more (i .if1 .left), by-field, ← h .head .ensures, ← w .word-of .ensures, ← t .tail .ensures)
+    (c .after-word .ensures)
 
 pub line-of-spec : {M : Type 1} → statement M
 line-of-spec =

@@ -34,7 +34,11 @@ returns-3 : tie.Need-returns-3
 returns-3 c = search needs
 
 returns-4 : tie.Need-returns-4
-returns-4 c = rw (c .before .before .before .before .before .before .before .before .x .given .1, c .before .before .before .before .before .y .given .1, c .before .before .z .given .1) (c .with-three .ensures)
+returns-4 c =
+    let z = c .before .before in
+    let y = z .before .before .before in
+    let x = y .before .before .before in
+    rw (x .x .given .1, y .y .given .1, z .z .given .1) (c .with-three .ensures)
 
 pub of-three-spec : {M : Type 1} → statement M
 of-three-spec =

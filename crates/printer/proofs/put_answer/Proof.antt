@@ -5,8 +5,9 @@ use native.Mathlib.Omega.{arith}
 use borrow.Author.Needs.{needs}
 use lib.ListN.{length, length-take}
 use Rattle.document.specs.ProbeSets.{held}
-use Rattle.printer.specs.Fields.{verdict-few, answer-is}
-use Rattle.buffer.specs.Put.{put-long, put-then, put-same}
+use Rattle.printer.specs.Laws.Lines.{answer-line-is}
+use Rattle.printer.specs.Laws.Rooms.{verdict-few}
+use Rattle.buffer.specs.Laws.Puts.{put-long, put-then, put-same}
 use Rattle.printer.proofs.put_answer.Statement.{statement}
 use Rattle.printer.proofs.put_answer.Tie as tie
 
@@ -33,8 +34,10 @@ same-length c = search needs
 
 returns : tie.Need-returns
 returns c = let s = c .before .before .before .before .before .before .before .before .before .before .before .before .before .before .before in
-    put-same (put-then (put-then (c .before .before .before .before .before .before .before .before .before .before .before .put-word .ensures) (c .before .before .before .before .before .before .put-verdict .ensures)) (c .before .before .put-byte .ensures))
-    (answer-is (s .args .word .now) (s .args .t) (s .args .answer))
+    let a = s .args in
+    put-same (put-then (put-then (c .before .before .before .before .before .before .before .before .before .before .before .put-word .ensures)
+    (c .before .before .before .before .before .before .put-verdict .ensures)) (c .before .before .put-byte .ensures))
+    (answer-line-is (a .word .now) (a .t) (a .answer))
 
 pub put-answer-spec : {M : Type 1} → statement M
 put-answer-spec =

@@ -4,9 +4,11 @@ use mathlib.Core.Path.{ap, _∙_}
 use Prim.Native.Nat.{ℕ}
 use native.Mathlib.Omega.{arith}
 use borrow.Author.Needs.{needs}
-use Rattle.document.specs.Desk.{openWord, refusedWord}
-use Rattle.printer.specs.Fields.{numberField, counted-ends, pass-is, open-is, not-is}
-use Rattle.buffer.specs.Put.{put-long, put-then, put-same}
+use Rattle.document.specs.Desk.{space, openWord, refusedWord}
+use Rattle.printer.specs.Fields.{numberField}
+use Rattle.printer.specs.Laws.Lines.{pass-fields, open-fields, refused-fields}
+use Rattle.printer.specs.Laws.Rooms.{counted-ends}
+use Rattle.buffer.specs.Laws.Puts.{put-long, put-then, put-same}
 use Rattle.printer.proofs.put_verdict.Statement.{statement}
 use Rattle.printer.proofs.put_verdict.Tie as tie
 
@@ -32,7 +34,7 @@ put-wires-requires : tie.Need-put-wires-requires
 put-wires-requires c κs = let s = c .before .before .before .before .before .before .before .before .before .before in
     let p = c .before .before .before .put-counted2 .ensures in
     let l = put-long p in
-    let e = counted-ends (s .args .t) (32 ∷ openWord) _ p in
+    let e = counted-ends (s .args .t) (space ∷ openWord) _ p in
     omega (arith, s .pre)
 
 enum-known-verdict-3 : tie.Need-enum-known-verdict-3
@@ -41,8 +43,8 @@ enum-known-verdict-3 c = search needs
 slice-aggregate-put-counted-3 : tie.Need-slice-aggregate-put-counted-3
 slice-aggregate-put-counted-3 c = search needs
 
-refusal-number-requires : tie.Need-refusal-number-requires
-refusal-number-requires c κs = search needs
+number-requires : tie.Need-number-requires
+number-requires c κs = search needs
 
 put-counted-requires-3 : tie.Need-put-counted-requires-3
 put-counted-requires-3 c κs = search needs
@@ -51,20 +53,24 @@ same-length : tie.Need-same-length
 same-length c = search needs
 
 returns : tie.Need-returns
-returns c = rw (c .before .before .before .before .before .before .verdict .given .1) (put-same (c .before .before .put-counted .ensures) (pass-is _ _ _))
+returns c = rw (c .before .before .before .before .before .before .verdict .given .1) (put-same (c .before .before .put-counted .ensures) (pass-fields _ _ _))
 
 same-length-2 : tie.Need-same-length-2
 same-length-2 c = search needs
 
 returns-2 : tie.Need-returns-2
-returns-2 c = rw (c .before .before .before .before .before .before .before .before .before .before .verdict2 .given .1) (put-same (put-then (c .before .before .before .before .before .before .put-counted2 .ensures) (c .before .before .put-wires .ensures)) (open-is _ _ _))
+returns-2 c = rw (c .before .before .before .before .before .before .before .before .before .before .verdict2 .given .1)
+    (put-same (put-then (c .before .before .before .before .before .before .put-counted2 .ensures) (c .before .before .put-wires .ensures)) (open-fields _ _ _))
 
 same-length-3 : tie.Need-same-length-3
 same-length-3 c = search needs
 
 returns-3 : tie.Need-returns-3
 returns-3 c = let s = c .before .before .before .before .before .before .before .before .before .before in
-    rw (c .before .before .before .before .before .before .before .verdict3 .given .1) (put-same (c .before .before .put-counted3 .ensures) (ap (λ (k : ℕ). (numberField (s .args .t) ++ (32 ∷ refusedWord)) ++ numberField k) (c .before .before .before .refusal-number .ensures) ∙ not-is _ _ _))
+    rw (c .before .before .before .before .before .before .before .verdict3 .given .1)
+    (put-same (c .before .before .put-counted3 .ensures)
+    (ap (λ (k : ℕ). (numberField (s .args .t) ++ (space ∷ refusedWord)) ++ numberField k) (c .before .before .before .before .number .ensures)
+    ∙ refused-fields _ _ _))
 
 pub put-verdict-spec : {M : Type 1} → statement M
 put-verdict-spec =
@@ -79,7 +85,7 @@ put-verdict-spec =
     put-wires-requires
     enum-known-verdict-3
     slice-aggregate-put-counted-3
-    refusal-number-requires
+    number-requires
     put-counted-requires-3
     same-length
     returns

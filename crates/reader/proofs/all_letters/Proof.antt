@@ -21,21 +21,18 @@ abbrev μ-loop : tie.MeasureT-loop
 loop-holds : tie.Need-loop-holds Inv-loop μ-loop
 loop-holds c = (search needs, refl)
 
-shared-slice-read-wide : tie.Need-shared-slice-read-wide Inv-loop μ-loop
-shared-slice-read-wide c = search needs
-
-wide-requires : tie.Need-wide-requires Inv-loop μ-loop
-wide-requires c κs = search needs
+shared-slice-read-is-letter : tie.Need-shared-slice-read-is-letter Inv-loop μ-loop
+shared-slice-read-is-letter c = search needs
 
 is-letter-requires : tie.Need-is-letter-requires Inv-loop μ-loop
 is-letter-requires c κs = search needs
 
 returns : tie.Need-returns Inv-loop μ-loop
 returns c =
-    let l = c .before .before .before .before .before in
+    let l = c .before .before .before .before in
     let i = l .loop in
     let text = l .before .before .args .text .now in
-    let h = sym (c .before .is-letter .ensures ∙ ap letter (c .before .before .wide .ensures)) ∙ not-true _ (c .if1 .taken) in
+    let h = sym (c .before .is-letter .ensures) ∙ not-true _ (c .if1 .taken) in
     sym (sym (i .inv .1) ∙ letters-step (i .i) text (omega arith) ∙ ap (λ b. b && each letter (drop (i .i + 1) text)) h)
 
 add-i : tie.Need-add-i Inv-loop μ-loop
@@ -46,10 +43,10 @@ loop-less c = search needs
 
 loop-again : tie.Need-loop-again Inv-loop μ-loop
 loop-again c =
-    let l = c .before .before .before .before .before in
+    let l = c .before .before .before .before in
     let i = l .loop in
     let text = l .before .before .args .text .now in
-    let h = sym (c .before .is-letter .ensures ∙ ap letter (c .before .before .wide .ensures)) ∙ not-false _ (c .if1 .left) in
+    let h = sym (c .before .is-letter .ensures) ∙ not-false _ (c .if1 .left) in
     (omega arith, sym (sym (i .inv .1) ∙ letters-step (i .i) text (omega arith) ∙ ap (λ b. b && each letter (drop (i .i + 1) text)) h))
 
 returns-2 : tie.Need-returns-2 Inv-loop μ-loop
@@ -64,8 +61,7 @@ all-letters-spec =
     Inv-loop
     μ-loop
     loop-holds
-    shared-slice-read-wide
-    wide-requires
+    shared-slice-read-is-letter
     is-letter-requires
     returns
     add-i

@@ -4,7 +4,7 @@ use lib.ListN.{drop}
 use Rattle.document.specs.declared.State.{State}
 use Rattle.document.specs.Reading.{readLines}
 use Rattle.document.specs.Lines.{linesIn}
-use Rattle.reader.proofs.TextLaws.{begun-sound}
+use Rattle.reader.proofs.TextLaws.{begun-bounded}
 use borrow.Author.Needs.{needs}
 use Rattle.reader.proofs.from_range.Statement.{statement}
 use Rattle.reader.proofs.from_range.Tie as tie
@@ -19,7 +19,7 @@ read-lines-requires : tie.Need-read-lines-requires
 read-lines-requires c κs =
     let t = c .before in
     let s = t .before .before in
-    (s .before .pre, rw (c .begin .ensures) (begun-sound (s .before .args .s) (s .before .args .d) (sym (t .before .in-range .ensures) ∙ t .if1 .taken)))
+    (s .before .pre, rw (c .begin .ensures) (begun-bounded (s .before .args .s) (s .before .args .d) (sym (t .before .in-range .ensures) ∙ t .if1 .taken)))
 
 returns : tie.Need-returns
 returns c =

@@ -92,7 +92,9 @@ returns-6 c =
     let yes = sym (b .all-letters .ensures) ∙ not-false _ (e .if3 .left) in
     c .from-header .ensures
     ∙ ap (λ (x : Line). fromHeader x (linesIn (drop (p .part .result + 1) text))) (l .line-of .ensures ∙ ap lineOf (h .head .ensures))
-    ∙ sym (read-on text (b .before .before .if1 .left) (b .before .if2 .left) yes (g .if4 .left) ∙ first-some text (p .part .result) (p .part .ensures .more (q .if5 .left)))
+    ∙ sym
+    (read-on text (b .before .before .if1 .left) (b .before .if2 .left) yes (g .if4 .left)
+    ∙ first-some text (p .part .result) (p .part .ensures .more (q .if5 .left)))
 
 pub read-spec : {M : Type 1} → statement M
 read-spec =

@@ -6,13 +6,14 @@ use lib.ListN.{length, drop}
 use native.Mathlib.Omega.{arith}
 use Rattle.document.specs.Lines.{linesIn}
 use Rattle.document.specs.Reading.{readLines}
-use Rattle.reader.specs.Sound.{Sound}
-use Rattle.reader.proofs.TextLaws.{lines-end, turn-on, turn-no, turn-sound, within-text}
+use Rattle.taking.specs.Ceilings.{UnderCeilings}
+use Rattle.reader.proofs.TextLaws.{lines-end, turn-on, turn-no, turn-bounded, within-text}
 use Rattle.reader.proofs.read_lines.Statement.{statement}
 use Rattle.reader.proofs.read_lines.Tie as tie
 
 abbrev Inv-loop : tie.InvT-loop
-Inv-loop text from at₀ k₀ st₀ at k st = (at ≤ length text) × (k ≤ at + 2) × Sound st × (readLines k st (linesIn (drop at text)) ≡ readLines 2 st₀ (linesIn (drop from text)))
+Inv-loop text from at₀ k₀ st₀ at k st =
+    (at ≤ length text) × (k ≤ at + 2) × UnderCeilings st × (readLines k st (linesIn (drop at text)) ≡ readLines 2 st₀ (linesIn (drop from text)))
 
 abbrev μ-loop : tie.MeasureT-loop
 μ-loop text from at₀ k₀ st₀ at k st = length text - at
@@ -35,7 +36,8 @@ returns c =
     let t = p .before in
     let i = t .before .loop in
     let text = t .before .before .before .args .text .now in
-    c .finish .ensures ∙ sym (lines-end (i .k) (i .st) (drop (i .at) text) (t .tail .result .now) (t .tail .ensures) (p .part .ensures .last (c .before .if1 .taken))) ∙ i .inv .3
+    let last = p .part .ensures .last (c .before .if1 .taken) in
+    c .finish .ensures ∙ sym (lines-end (i .k) (i .st) (drop (i .at) text) (t .tail .result .now) (t .tail .ensures) last) ∙ i .inv .3
 
 head-requires : tie.Need-head-requires Inv-loop μ-loop
 head-requires c κs = c .before .part .ensures .within
@@ -64,7 +66,8 @@ returns-2 c =
     let text = t .before .before .before .args .text .now in
     c .refuse .ensures
     ∙ turn-no (i .k) (i .st) text (i .at) (p .part .result) (t .tail .result .now) (h .head .result .now) (l .line-of .result) (m .take-line .result)
-    (t .tail .ensures) (p .part .ensures .more (e .if1 .left)) (h .head .ensures) (l .line-of .ensures) (m .take-line .ensures) (c .before .before .outcome .given .1)
+    (t .tail .ensures) (p .part .ensures .more (e .if1 .left)) (h .head .ensures) (l .line-of .ensures) (m .take-line .ensures)
+    (c .before .before .outcome .given .1)
     ∙ i .inv .3
 
 enum-told : tie.Need-enum-told Inv-loop μ-loop
@@ -116,10 +119,11 @@ loop-again c =
     let z = within-text text (t .tail .result .now) (i .at) (p .part .result) (t .tail .ensures) (i .inv .0) (p .part .ensures .within) (e .if1 .left) in (
       z,
       omega arith,
-      turn-sound (i .k) (i .st) text (i .at) (p .part .result) (t .tail .result .now) (h .head .result .now) (l .line-of .result) (m .take-line .result)
+      turn-bounded (i .k) (i .st) text (i .at) (p .part .result) (t .tail .result .now) (h .head .result .now) (l .line-of .result) (m .take-line .result)
           (t .tail .ensures) (p .part .ensures .more (e .if1 .left)) (h .head .ensures) (l .line-of .ensures) (m .take-line .ensures) (i .inv .2),
       turn-on (i .k) (i .st) text (i .at) (p .part .result) (t .tail .result .now) (h .head .result .now) (l .line-of .result) (m .take-line .result)
-          (t .tail .ensures) (p .part .ensures .more (e .if1 .left)) (h .head .ensures) (l .line-of .ensures) (m .take-line .ensures) (c .before .enum-told .given .1)
+          (t .tail .ensures) (p .part .ensures .more (e .if1 .left)) (h .head .ensures) (l .line-of .ensures) (m .take-line .ensures)
+          (c .before .enum-told .given .1)
           ∙ i .inv .3,
     )
 

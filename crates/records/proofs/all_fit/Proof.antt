@@ -5,16 +5,17 @@ use Prim.Native.Nat.{ℕ, _-_, _≤_}
 use native.Mathlib.Omega.{arith}
 use borrow.Author.Needs.{needs}
 use Rattle.document.specs.Basics.{all}
-use Rattle.records.specs.Laws.{all-none, all-more}
+use Rattle.records.specs.Laws.Counts.{all-none, all-more}
 use Rattle.records.specs.Records.{recordAt, fitsAt}
 use Rattle.records.proofs.all_fit.Statement.{statement}
 use Rattle.records.proofs.all_fit.Tie as tie
 
 abbrev Inv-loop : tie.InvT-loop
-Inv-loop s d n ws good₀ w₀ good w = (w ≤ n) × (good ≡ all w (λ u. fitsAt s d u (recordAt ws u)))
+Inv-loop listing s d n good₀ w₀ good w = (w ≤ listing .shape .n)
+    × (good ≡ all w (λ u. fitsAt (listing .shape .s) (listing .shape .d) u (recordAt (listing .wires) u)))
 
 abbrev μ-loop : tie.MeasureT-loop
-μ-loop s d n ws good₀ w₀ good w = n - w
+μ-loop listing s d n good₀ w₀ good w = listing .shape .n - w
 
 loop-holds : tie.Need-loop-holds Inv-loop μ-loop
 loop-holds c = (search needs, sym (all-none _))
@@ -22,8 +23,8 @@ loop-holds c = (search needs, sym (all-none _))
 mul-x : tie.Need-mul-x Inv-loop μ-loop
 mul-x c = omega (arith, c .before .before .pre .1)
 
-array-copy-out-x : tie.Need-array-copy-out-x Inv-loop μ-loop
-array-copy-out-x c = omega (arith, c .before .before .pre .1)
+element-copy-out-x : tie.Need-element-copy-out-x Inv-loop μ-loop
+element-copy-out-x c = omega (arith, c .before .before .pre .1)
 
 record-fits-requires : tie.Need-record-fits-requires Inv-loop μ-loop
 record-fits-requires c κs = c .before .before .before .pre .0
@@ -36,16 +37,17 @@ loop-less c = omega arith
 
 loop-again : tie.Need-loop-again Inv-loop μ-loop
 loop-again c = let s = c .before .before .before .before in
-    let f : ℕ → Bool = λ u. fitsAt (s .args .s) (s .args .d) u (recordAt (s .args .t4) u) in (
+    let f : ℕ → Bool = λ u. fitsAt (s .args .t1 .shape .s) (s .args .t1 .shape .d) u (recordAt (s .args .t1 .wires) u) in (
       omega arith,
       ap (λ (b : Bool). b && (c .record-fits .result)) (c .before .before .before .loop .inv .1)
-          ∙ ap (λ (b : Bool). all (c .before .before .before .loop .w) f && b) (c .record-fits .ensures) ∙ sym (all-more (c .before .before .before .loop .w) f),
+          ∙ ap (λ (b : Bool). all (c .before .before .before .loop .w) f && b) (c .record-fits .ensures)
+          ∙ sym (all-more (c .before .before .before .loop .w) f),
     )
 
 returns : tie.Need-returns Inv-loop μ-loop
 returns c = let s = c .before .before in
-    let e : c .before .loop .w ≡ s .args .n = omega arith in
-    c .before .loop .inv .1 ∙ ap (λ (k : ℕ). all k (λ u. fitsAt (s .args .s) (s .args .d) u (recordAt (s .args .t4) u))) e
+    let e : c .before .loop .w ≡ s .args .t1 .shape .n = omega arith in
+    c .before .loop .inv .1 ∙ ap (λ (k : ℕ). all k (λ u. fitsAt (s .args .t1 .shape .s) (s .args .t1 .shape .d) u (recordAt (s .args .t1 .wires) u))) e
 
 pub all-fit-spec : {M : Type 1} → statement M
 all-fit-spec =
@@ -55,7 +57,7 @@ all-fit-spec =
     μ-loop
     loop-holds
     mul-x
-    array-copy-out-x
+    element-copy-out-x
     record-fits-requires
     add-w
     loop-less

@@ -21,16 +21,30 @@ one-if-requires-2 : tie.Need-one-if-requires-2
 one-if-requires-2 c κs = search needs
 
 add-t9 : tie.Need-add-t9
-add-t9 c = omega (arith, c .before .before .before .before .before .before .pre .pubs-room, one-small (c .before .before .is-pub .result) (c .before .one-if2 .ensures))
+add-t9 c = omega (
+  arith,
+  c .before .before .before .before .before .before .pre .pubs-room,
+  one-small (c .before .before .is-pub .result) (c .before .one-if2 .ensures),
+)
 
 one-if-requires-3 : tie.Need-one-if-requires-3
 one-if-requires-3 c κs = search needs
 
 add-t11 : tie.Need-add-t11
-add-t11 c = omega (arith, c .before .before .before .before .before .before .before .before .pre .outs-room, one-small (c .before .before .before .before .before .before .before .before .args .x .out) (c .before .one-if3 .ensures))
+add-t11 c = omega (
+  arith,
+  c .before .before .before .before .before .before .before .before .pre .outs-room,
+  one-small (c .before .before .before .before .before .before .before .before .args .x .out) (c .before .one-if3 .ensures),
+)
 
 returns : tie.Need-returns
-returns c = simp (c .before .before .before .before .before .before .before .is-rand .ensures, c .before .before .before .before .before .before .one-if .ensures, c .before .before .before .before .is-pub .ensures, c .before .before .before .one-if2 .ensures, c .before .one-if3 .ensures)
+returns c = simp (
+  c .before .before .before .before .before .before .before .is-rand .ensures,
+  c .before .before .before .before .before .before .one-if .ensures,
+  c .before .before .before .before .is-pub .ensures,
+  c .before .before .before .one-if2 .ensures,
+  c .before .one-if3 .ensures,
+)
 
 pub count-record-spec : {M : Type 1} → statement M
 count-record-spec =

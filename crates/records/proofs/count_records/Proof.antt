@@ -3,7 +3,7 @@ use mathlib.Core.Path.{_≡_, sym, ap, _∙_}
 use Prim.Native.Nat.{ℕ, _-_, _≤_}
 use native.Mathlib.Omega.{arith}
 use borrow.Author.Needs.{needs}
-use Rattle.records.specs.Laws.{counts-none, counts-more, counts-room}
+use Rattle.records.specs.Laws.Counts.{counts-none, counts-more, counts-room}
 use Rattle.records.specs.Records.{recordAt, countsOf, withRecord}
 use Rattle.records.specs.declared.Counts.{Counts}
 use Rattle.records.proofs.count_records.Statement.{statement}
@@ -34,10 +34,16 @@ loop-less : tie.Need-loop-less Inv-loop μ-loop
 loop-less c = omega arith
 
 loop-again : tie.Need-loop-again Inv-loop μ-loop
-loop-again c = (omega arith, c .count-record .ensures ∙ ap (λ (k : Counts). withRecord k (recordAt (c .before .before .before .before .args .t2) (c .before .before .before .loop .i))) (c .before .before .before .loop .inv .1) ∙ sym (counts-more (c .before .before .before .loop .i) (c .before .before .before .before .args .t2)))
+loop-again c = (
+  omega arith,
+  c .count-record .ensures
+      ∙ ap (λ (k : Counts). withRecord k (recordAt (c .before .before .before .before .args .t2) (c .before .before .before .loop .i)))
+      (c .before .before .before .loop .inv .1) ∙ sym (counts-more (c .before .before .before .loop .i) (c .before .before .before .before .args .t2)),
+)
 
 returns : tie.Need-returns Inv-loop μ-loop
-returns c = let e : c .before .loop .i ≡ c .before .before .args .n = omega arith in c .before .loop .inv .1 ∙ ap (λ (k : ℕ). countsOf k (c .before .before .args .t2)) e
+returns c = let e : c .before .loop .i ≡ c .before .before .args .n = omega arith in c .before .loop .inv .1
+    ∙ ap (λ (k : ℕ). countsOf k (c .before .before .args .t2)) e
 
 pub count-records-spec : {M : Type 1} → statement M
 count-records-spec =

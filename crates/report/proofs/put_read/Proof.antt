@@ -1,8 +1,8 @@
 -- `report::put_read` meets its contract; each return is one outcome of the read.
 use native.Mathlib.Omega.{arith}
 use borrow.Author.Needs.{needs}
-use Rattle.report.specs.Orders.{done-lines, refused-lines}
-use Rattle.buffer.specs.Put.{put-same}
+use Rattle.report.specs.Laws.Orders.{done-lines, refused-lines}
+use Rattle.buffer.specs.Laws.Puts.{put-same}
 use Rattle.report.proofs.put_read.Statement.{statement}
 use Rattle.report.proofs.put_read.Tie as tie
 
@@ -14,7 +14,7 @@ orders-requires c κs = search needs
 
 put-orders-requires : tie.Need-put-orders-requires
 put-orders-requires c κs = let s = c .before .before .before .before .before .before in
-    (omega (arith, c .orders .ensures), s .pre .0 (c .before .before .before .enum-told .given .1), s .pre .1)
+    (omega (arith, c .before .orders .ensures), s .pre .0 (c .before .before .before .enum-told .given .1), s .pre .1)
 
 enum-known-outcome : tie.Need-enum-known-outcome
 enum-known-outcome c = search needs
@@ -27,8 +27,9 @@ same-length c = search needs
 
 returns : tie.Need-returns
 returns c = let s = c .before .before .before .before .before .before .before .before .before in
-    let m = c .before .before .before .orders in
-    put-same (c .before .before .put-orders .ensures) (done-lines (s .args .got) (m .result) (c .before .before .before .before .before .before .enum-told .given .1) (m .ensures))
+    let m = c .before .before .before .before .orders in
+    put-same (c .before .before .put-orders .ensures)
+    (done-lines (s .args .got) (m .result) (c .before .before .before .before .before .before .enum-told .given .1) (m .ensures))
 
 same-length-2 : tie.Need-same-length-2
 same-length-2 c = search needs

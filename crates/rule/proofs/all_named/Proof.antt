@@ -6,7 +6,7 @@ use borrow.Author.Needs.{needs}
 use lib.ListN.{length, take, drop}
 use lib.Dec.{ltb}
 use Rattle.document.specs.Basics.{each}
-use Rattle.rule.specs.Calls.{named-on, named-not, named-end}
+use Rattle.rule.specs.Laws.Calls.{named-on, named-not, named-end}
 use Rattle.rule.proofs.all_named.Statement.{statement}
 use Rattle.rule.proofs.all_named.Tie as tie
 
@@ -28,7 +28,8 @@ cast-if1 c = search needs
 returns : tie.Need-returns Inv-loop μ-loop
 returns c = let s = c .before .before .before in
     let l : length (s .args .t1) ≡ 4 = search needs in
-    sym (named-not (s .args .t1) (s .args .len) (s .args .n) (omega arith) (c .before .before .loop .i) (omega arith) (c .if1 .taken)) ∙ c .before .before .loop .inv .1
+    sym (named-not (s .args .t1) (s .args .len) (s .args .n) (omega arith) (c .before .before .loop .i) (omega arith) (c .if1 .taken))
+    ∙ c .before .before .loop .inv .1
 
 add-i : tie.Need-add-i Inv-loop μ-loop
 add-i c = search needs
@@ -38,8 +39,11 @@ loop-less c = search needs
 
 loop-again : tie.Need-loop-again Inv-loop μ-loop
 loop-again c = let s = c .before .before .before in
-    let l : length (s .args .t1) ≡ 4 = search needs in
-    (omega arith, sym (named-on (s .args .t1) (s .args .len) (s .args .n) (omega arith) (c .before .before .loop .i) (omega arith) (c .if1 .left)) ∙ c .before .before .loop .inv .1)
+    let l : length (s .args .t1) ≡ 4 = search needs in (
+      omega arith,
+      sym (named-on (s .args .t1) (s .args .len) (s .args .n) (omega arith) (c .before .before .loop .i) (omega arith) (c .if1 .left))
+          ∙ c .before .before .loop .inv .1,
+    )
 
 returns-2 : tie.Need-returns-2 Inv-loop μ-loop
 returns-2 c = let s = c .before .before in

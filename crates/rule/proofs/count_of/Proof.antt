@@ -6,7 +6,7 @@ use borrow.Author.Needs.{needs}
 use lib.Pow.{pow-pos}
 use lib.Count.{ones}
 use lib.Bits.{bitAnd}
-use Rattle.rule.specs.Words.{one-shl, mask-word, ones-masked}
+use Rattle.rule.specs.Laws.Words.{one-shl, mask-word, ones-masked}
 use Rattle.rule.proofs.count_of.Statement.{statement}
 use Rattle.rule.proofs.count_of.Tie as tie
 
@@ -23,7 +23,8 @@ shl-mask-2 : tie.Need-shl-mask-2
 shl-mask-2 c = search needs
 
 returns : tie.Need-returns
-returns c = ap (λ (m : ℕ). ones (bitAnd (c .args .shares) m)) (mask-word (c .args .d) (c .args .i * c .args .d) (omega arith) (omega arith)) ∙ ones-masked (c .args .shares) (c .args .d) (c .args .i)
+returns c = ap (λ (m : ℕ). ones (bitAnd (c .args .shares) m)) (mask-word (c .args .d) (c .args .i * c .args .d) (omega arith) (omega arith))
+    ∙ ones-masked (c .args .shares) (c .args .d) (c .args .i)
 
 pub count-of-spec : {M : Type 1} → statement M
 count-of-spec = tie.close (tie.spec shl-mask sub-mask mul-mask shl-mask-2 returns)

@@ -19,8 +19,8 @@ share-word-requires : tie.Need-share-word-requires
 share-word-requires c κs = search needs
 
 returns : tie.Need-returns
-returns c = let s = c .before .before in c .share-word .ensures ∙ ap (λ (m : List Bool). word (s .args .s * s .args .d) (at m)) (c .before .live-marks .ensures)
+returns c = let σ = c .before .before .before .args .listing .shape in
+    c .share-word .ensures ∙ ap (λ (m : List Bool). word (σ .s * σ .d) (at m)) (c .before .live-marks .ensures)
 
 pub live-shares-spec : {M : Type 1} → statement M
-live-shares-spec =
-    tie.close (tie.spec live-marks-requires mul-share-word share-word-requires returns)
+live-shares-spec = tie.close (tie.spec live-marks-requires mul-share-word share-word-requires returns)

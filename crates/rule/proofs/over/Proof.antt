@@ -5,7 +5,8 @@ use Prim.Native.Nat.{ℕ, _-_, _≤_}
 use native.Mathlib.Omega.{arith}
 use borrow.Author.Needs.{needs}
 use lib.Dec.{ltb}
-use Rattle.rule.specs.Words.{someOver, secret-fits, over-none, over-more}
+use Rattle.rule.specs.Words.{someOver}
+use Rattle.rule.specs.Laws.Words.{secret-fits, over-none, over-more}
 use Rattle.rule.proofs.over.Statement.{statement}
 use Rattle.rule.proofs.over.Tie as tie
 
@@ -19,7 +20,8 @@ loop-holds : tie.Need-loop-holds Inv-loop μ-loop
 loop-holds c = (search needs, over-none (c .args .d) (c .args .shares) (c .args .bound))
 
 count-of-requires : tie.Need-count-of-requires Inv-loop μ-loop
-count-of-requires c κs = let s = c .before .before in (s .pre .some-shares, s .pre .few-shares, secret-fits (s .args .s) (s .args .d) (c .before .loop .i) (s .pre) (omega arith))
+count-of-requires c κs = let s = c .before .before in
+    (s .pre .some-shares, s .pre .few-shares, secret-fits (s .args .s) (s .args .d) (c .before .loop .i) (s .pre) (omega arith))
 
 cast-some : tie.Need-cast-some Inv-loop μ-loop
 cast-some c = search needs
@@ -34,7 +36,8 @@ loop-again : tie.Need-loop-again Inv-loop μ-loop
 loop-again c = let s = c .before .before .before in
     let l = c .before .before .loop in (
       omega arith,
-      ap₂ (λ (p : Bool) (k : ℕ). p || ltb (s .args .bound) k) (l .inv .1) (c .count-of .ensures) ∙ over-more (l .i) (s .args .d) (s .args .shares) (s .args .bound),
+      ap₂ (λ (p : Bool) (k : ℕ). p || ltb (s .args .bound) k) (l .inv .1) (c .count-of .ensures)
+          ∙ over-more (l .i) (s .args .d) (s .args .shares) (s .args .bound),
     )
 
 returns : tie.Need-returns Inv-loop μ-loop

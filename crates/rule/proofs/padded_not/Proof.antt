@@ -13,7 +13,8 @@ no-step-requires : tie.Need-no-step-requires
 no-step-requires c κs = search needs
 
 returns : tie.Need-returns
-returns c = ap {B = Padded} (λ (s : Step). record { outcome = Refused (c .before .args .refusal); steps = replicate 128 s; len = 0; undecided = false }) (c .no-step .ensures)
+returns c = ap {B = Padded} (λ (s : Step). record { outcome = Refused (c .before .args .refusal); steps = replicate 128 s; len = 0; undecided = false })
+    (c .no-step .ensures)
 
 pub padded-not-spec : {M : Type 1} → statement M
 padded-not-spec = tie.close (tie.spec no-step-requires returns)

@@ -1,9 +1,9 @@
--- `rule::probes_fit` meets its contract. Each return is one part of the document's test.
+-- `rule::probes_fit` meets its contract. Each return is one part of the test (5.24).
 use mathlib.Core.Path.{sym, _∙_}
 use native.Mathlib.Omega.{arith}
 use borrow.Author.Tests.{not-true, not-false}
 use borrow.Author.Needs.{needs}
-use Rattle.rule.specs.Calls.{empty-refused, large-refused, unordered-refused, named-decides}
+use Rattle.rule.specs.Laws.Calls.{empty-refused, large-refused, unordered-refused, named-decides}
 use Rattle.rule.proofs.probes_fit.Statement.{statement}
 use Rattle.rule.proofs.probes_fit.Tie as tie
 
@@ -17,13 +17,16 @@ is-ascending-requires : tie.Need-is-ascending-requires
 is-ascending-requires c κs = search needs
 
 returns-3 : tie.Need-returns-3
-returns-3 c = let s = c .before .before .before .before .before in unordered-refused (s .args .n) (s .args .t) (s .args .set) (omega arith) (omega arith) (sym (c .before .is-ascending .ensures) ∙ not-true _ (c .if3 .taken))
+returns-3 c = let s = c .before .before .before .before .before in
+    unordered-refused (s .args .n) (s .args .t) (s .args .set) (omega arith) (omega arith) (sym (c .before .is-ascending .ensures) ∙ not-true _ (c .if3 .taken))
 
 all-named-requires : tie.Need-all-named-requires
 all-named-requires c κs = search needs
 
 returns-4 : tie.Need-returns-4
-returns-4 c = let s = c .before .before .before .before .before .before in c .all-named .ensures ∙ named-decides (s .args .n) (s .args .t) (s .args .set) (omega arith) (omega arith) (sym (c .before .before .is-ascending .ensures) ∙ not-false _ (c .before .if3 .left))
+returns-4 c = let s = c .before .before .before .before .before .before in c .all-named .ensures
+    ∙ named-decides (s .args .n) (s .args .t) (s .args .set) (omega arith) (omega arith) (sym (c .before .before .is-ascending .ensures)
+    ∙ not-false _ (c .before .if3 .left))
 
 pub probes-fit-spec : {M : Type 1} → statement M
 probes-fit-spec =

@@ -5,7 +5,7 @@ use native.Mathlib.Omega.{arith}
 use borrow.Author.Needs.{needs}
 use Rattle.document.specs.Padding.{word}
 use Rattle.document.specs.Basics.{at}
-use Rattle.rule.specs.Words.{word-none, word-more, word-fits}
+use Rattle.rule.specs.Laws.Words.{word-none, word-more, word-fits}
 use Rattle.rule.proofs.share_word.Statement.{statement}
 use Rattle.rule.proofs.share_word.Tie as tie
 
@@ -16,7 +16,7 @@ abbrev μ-loop : tie.MeasureT-loop
 μ-loop m alive shares₀ k₀ shares k = m - k
 
 loop-holds : tie.Need-loop-holds Inv-loop μ-loop
-loop-holds c = (search needs, word-none (at (c .args .t2)))
+loop-holds c = (search needs, word-none (at (c .args .t1)))
 
 array-read-on : tie.Need-array-read-on Inv-loop μ-loop
 array-read-on c = search needs
@@ -27,7 +27,7 @@ bit-if-requires c κs = search needs
 add-shares : tie.Need-add-shares Inv-loop μ-loop
 add-shares c = let s = c .before .before .before in
     let l = c .before .before .loop in
-    let z : l .shares + c .bit-if .result < 2 ^ 64 = rw (l .inv .1, c .bit-if .ensures) (word-fits (l .k) (at (s .args .t2)) (omega arith)) in search needs
+    let z : l .shares + c .bit-if .result < 2 ^ 64 = rw (l .inv .1, c .bit-if .ensures) (word-fits (l .k) (at (s .args .t1)) (omega arith)) in search needs
 
 add-k : tie.Need-add-k Inv-loop μ-loop
 add-k c = search needs
@@ -38,12 +38,12 @@ loop-less c = search needs
 loop-again : tie.Need-loop-again Inv-loop μ-loop
 loop-again c = let s = c .before .before .before in
     let l = c .before .before .loop in
-    (omega arith, ap₂ _+_ (l .inv .1) (c .bit-if .ensures) ∙ word-more (l .k) (at (s .args .t2)))
+    (omega arith, ap₂ _+_ (l .inv .1) (c .bit-if .ensures) ∙ word-more (l .k) (at (s .args .t1)))
 
 returns : tie.Need-returns Inv-loop μ-loop
 returns c = let s = c .before .before in
     let e : c .before .loop .k ≡ s .args .m = omega arith in
-    c .before .loop .inv .1 ∙ ap (λ (k : ℕ). word k (at (s .args .t2))) e
+    c .before .loop .inv .1 ∙ ap (λ (k : ℕ). word k (at (s .args .t1))) e
 
 pub share-word-spec : {M : Type 1} → statement M
 share-word-spec =

@@ -3,7 +3,7 @@ use Prim.Native.Nat.{_/_, _^_}
 use native.Mathlib.Omega.{arith}
 use borrow.Author.Needs.{needs}
 use lib.Bits.{and-le-r}
-use Rattle.runner.specs.Laws.{bit-is, bit-none}
+use Rattle.runner.specs.Laws.Bits.{bit-is, bit-none}
 use Rattle.runner.proofs.bit_at.Statement.{statement}
 use Rattle.runner.proofs.bit_at.Tie as tie
 

@@ -5,7 +5,7 @@ use native.Mathlib.Omega.{arith}
 use borrow.Author.Tests.{lt-ltb}
 use borrow.Author.Needs.{needs}
 use lib.Dec.{ltb}
-use Rattle.runner.specs.Laws.{one-shifted}
+use Rattle.runner.specs.Laws.Bits.{shift-one}
 use Rattle.runner.proofs.word_fits.Statement.{statement}
 use Rattle.runner.proofs.word_fits.Tie as tie
 
@@ -16,7 +16,7 @@ returns : tie.Need-returns
 returns c = rw (c .if1 .taken) (sym (lt-ltb (c .before .args .word) (2 ^ 64) (c .before .fits .word .fits)))
 
 returns-2 : tie.Need-returns-2
-returns-2 c = ap (λ (x : ℕ). ltb (c .before .args .word) x) (one-shifted (c .before .args .k) (omega (arith, c .before .pre, c .if1 .left)))
+returns-2 c = ap (λ (x : ℕ). ltb (c .before .args .word) x) (shift-one (c .before .args .k) (omega (arith, c .before .pre, c .if1 .left)))
 
 pub word-fits-spec : {M : Type 1} → statement M
 word-fits-spec = tie.close (tie.spec shl-bound returns returns-2)

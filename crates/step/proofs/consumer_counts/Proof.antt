@@ -8,7 +8,8 @@ use borrow.Author.Tests.{not-true}
 use borrow.Author.Needs.{needs}
 use Rattle.document.specs.Laws.Tests.{and-false}
 use Rattle.document.specs.Basics.{at}
-use Rattle.step.specs.Consumers.{Consumers, counts-none, counts-spare, counts-on, counts-off}
+use Rattle.step.specs.Consumers.{Consumers}
+use Rattle.step.specs.Laws.Consumers.{counts-none, counts-spare, counts-on, counts-off}
 use Rattle.step.proofs.consumer_counts.Statement.{statement}
 use Rattle.step.proofs.consumer_counts.Tie as tie
 
@@ -48,7 +49,8 @@ loop-again : tie.Need-loop-again Inv-loop μ-loop
 loop-again c = let s = c .before .before .before .before .before .before in
     let l = c .before .before .before .before .before .loop in (
       omega arith,
-      rw (c .count-operands .ensures) (counts-on (s .args .n) (s .args .t2) (s .args .t3) (s .args .t4) (l .u) (l .counts) (omega arith) (omega arith) (s .pre .low (l .u - 1) (omega arith)) (c .before .before .before .if1 .taken) (not-true _ (c .before .before .if2 .taken)) (l .inv .1)),
+      rw (c .count-operands .ensures) (counts-on (s .args .n) (s .args .t2) (s .args .t3) (s .args .t4) (l .u) (l .counts) (omega arith) (omega arith)
+          (s .pre .low (l .u - 1) (omega arith)) (c .before .before .before .if1 .taken) (not-true _ (c .before .before .if2 .taken)) (l .inv .1)),
     )
 
 loop-less-2 : tie.Need-loop-less-2 Inv-loop μ-loop
@@ -59,7 +61,10 @@ loop-again-2 c = let s = c .before .before .before in
     let l = c .before .before .loop in (
       omega arith,
       counts-off (s .args .n) (s .args .t2) (s .args .t3) (s .args .t4) (l .u) (l .counts) (omega arith)
-          (elim (c .if1 .came) [ inl p ↦ and-false (at (s .args .t4) (l .u - 1)) (not (at (s .args .t3) (l .u - 1))) (p .1 .left) | inr q ↦ ap (λ (b : Bool). b && not (at (s .args .t3) (l .u - 1))) (q .left) ])
+          (elim (c .if1 .came) [
+            | inl p ↦ and-false (at (s .args .t4) (l .u - 1)) (not (at (s .args .t3) (l .u - 1))) (p .1 .left)
+            | inr q ↦ ap (λ (b : Bool). b && not (at (s .args .t3) (l .u - 1))) (q .left)
+          ])
           (l .inv .1),
     )
 

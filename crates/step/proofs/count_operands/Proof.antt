@@ -41,27 +41,33 @@ count-one-requires c κs = let s = c .before .before .before .before in (s .pre 
 
 returns : tie.Need-returns
 unfolding countedWith
-returns c = let s = c .before .before .before .before in ap (λ (k : Kind). countedWith k (s .args .x .a) (s .args .x .b) (s .args .counts)) (sym (c .enum-told .given .1))
+returns c = let s = c .before .before .before .before in
+    ap (λ (k : Kind). countedWith k (s .args .x .a) (s .args .x .b) (s .args .counts)) (sym (c .enum-told .given .1))
 
 returns-2 : tie.Need-returns-2
 unfolding countedWith
-returns-2 c = let s = c .before .before .before .before in ap (λ (k : Kind). countedWith k (s .args .x .a) (s .args .x .b) (s .args .counts)) (sym (c .enum-told2 .given .1))
+returns-2 c = let s = c .before .before .before .before in
+    ap (λ (k : Kind). countedWith k (s .args .x .a) (s .args .x .b) (s .args .counts)) (sym (c .enum-told2 .given .1))
 
 returns-3 : tie.Need-returns-3
 unfolding countedWith
-returns-3 c = let s = c .before .before .before .before in ap (λ (k : Kind). countedWith k (s .args .x .a) (s .args .x .b) (s .args .counts)) (sym (c .enum-told3 .given .1))
+returns-3 c = let s = c .before .before .before .before in
+    ap (λ (k : Kind). countedWith k (s .args .x .a) (s .args .x .b) (s .args .counts)) (sym (c .enum-told3 .given .1))
 
 returns-4 : tie.Need-returns-4
 unfolding countedWith
-returns-4 c = let s = c .before .before .before .before .before in c .count-two .ensures ∙ ap (λ (k : Kind). countedWith k (s .args .x .a) (s .args .x .b) (s .args .counts)) (sym (c .before .enum-told4 .given .1))
+returns-4 c = let s = c .before .before .before .before .before in c .count-two .ensures
+    ∙ ap (λ (k : Kind). countedWith k (s .args .x .a) (s .args .x .b) (s .args .counts)) (sym (c .before .enum-told4 .given .1))
 
 returns-5 : tie.Need-returns-5
 unfolding countedWith
-returns-5 c = let s = c .before .before .before .before .before in c .count-two2 .ensures ∙ ap (λ (k : Kind). countedWith k (s .args .x .a) (s .args .x .b) (s .args .counts)) (sym (c .before .enum-told5 .given .1))
+returns-5 c = let s = c .before .before .before .before .before in c .count-two2 .ensures
+    ∙ ap (λ (k : Kind). countedWith k (s .args .x .a) (s .args .x .b) (s .args .counts)) (sym (c .before .enum-told5 .given .1))
 
 returns-6 : tie.Need-returns-6
 unfolding countedWith
-returns-6 c = let s = c .before .before .before .before .before in c .count-one .ensures ∙ ap (λ (k : Kind). countedWith k (s .args .x .a) (s .args .x .b) (s .args .counts)) (sym (c .before .enum-told6 .given .1))
+returns-6 c = let s = c .before .before .before .before .before in c .count-one .ensures
+    ∙ ap (λ (k : Kind). countedWith k (s .args .x .a) (s .args .x .b) (s .args .counts)) (sym (c .before .enum-told6 .given .1))
 
 pub count-operands-spec : {M : Type 1} → statement M
 count-operands-spec =

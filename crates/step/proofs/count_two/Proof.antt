@@ -3,7 +3,8 @@ use mathlib.Core.List.{List}
 use mathlib.Core.Path.{sym, ap, _∙_}
 use Prim.Native.Nat.{ℕ}
 use borrow.Author.Tests.{eq-eqb, ne-eqb}
-use Rattle.step.specs.Consumers.{bumped, bumpedTwo, bumped-other}
+use Rattle.step.specs.Consumers.{bumped, bumpedTwo}
+use Rattle.step.specs.Laws.Consumers.{bumped-other}
 use Rattle.step.proofs.count_two.Statement.{statement}
 use Rattle.step.proofs.count_two.Tie as tie
 
@@ -22,7 +23,9 @@ count-one-requires-2 c κs = let s = c .before .before in
 
 returns-2 : tie.Need-returns-2
 unfolding bumpedTwo
-returns-2 c = let s = c .before .before .before in simp (ne-eqb _ _ (λ q. c .before .if1 .left (sym q))) (c .count-one2 .ensures ∙ ap (λ (l : List ℕ). bumped l (s .args .b)) (c .before .before .count-one .ensures))
+returns-2 c = let s = c .before .before .before in
+    simp (ne-eqb _ _ (λ q. c .before .if1 .left (sym q))) (c .count-one2 .ensures
+    ∙ ap (λ (l : List ℕ). bumped l (s .args .b)) (c .before .before .count-one .ensures))
 
 pub count-two-spec : {M : Type 1} → statement M
 count-two-spec = tie.close (tie.spec count-one-requires returns count-one-requires-2 returns-2)

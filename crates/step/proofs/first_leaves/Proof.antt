@@ -7,7 +7,8 @@ use native.Mathlib.Omega.{arith}
 use borrow.Author.Needs.{needs}
 use Rattle.document.specs.Padding.{randsFrom}
 use Rattle.document.specs.Basics.{mark}
-use Rattle.step.specs.Passes.{wired, leaves-turn, leaves-end, leaves-all}
+use Rattle.step.specs.Passes.{wired}
+use Rattle.step.specs.Laws.Passes.{leaves-turn, leaves-end, leaves-all}
 use Rattle.step.proofs.first_leaves.Statement.{statement}
 use Rattle.step.proofs.first_leaves.Tie as tie
 
@@ -45,7 +46,8 @@ loop-again c = let s = c .before .before .before .before in
 
 returns : tie.Need-returns Inv-loop μ-loop
 returns c = let s = c .before .before in
-    sym (leaves-end (s .args .n) (s .args .t2) (c .before .loop .u) (c .before .loop .leaf) (omega arith)) ∙ c .before .loop .inv .1 ∙ leaves-all (s .args .n) (s .args .t2) (s .pre .long)
+    sym (leaves-end (s .args .n) (s .args .t2) (c .before .loop .u) (c .before .loop .leaf) (omega arith)) ∙ c .before .loop .inv .1
+    ∙ leaves-all (s .args .n) (s .args .t2) (s .pre .long)
 
 pub first-leaves-spec : {M : Type 1} → statement M
 first-leaves-spec =

@@ -10,7 +10,8 @@ use borrow.Author.Needs.{needs}
 use Rattle.document.specs.Laws.Tests.{and-false}
 use Rattle.document.specs.Padding.{liveDown}
 use Rattle.document.specs.Basics.{at}
-use Rattle.step.specs.Passes.{wired, live-on, live-off, live-end, live-all}
+use Rattle.step.specs.Passes.{wired}
+use Rattle.step.specs.Laws.Passes.{live-on, live-off, live-end, live-all}
 use Rattle.step.proofs.live_marks.Statement.{statement}
 use Rattle.step.proofs.live_marks.Tie as tie
 
@@ -49,7 +50,8 @@ loop-again c = let s = c .before .before .before .before .before .before in
     let u = c .before .before .before .before .before .loop .u in (
       omega arith,
       ap (λ (k : List Bool). liveDown (wired (s .args .n) (s .args .t2)) (s .args .t4) (u - 1) k) (c .mark-operands .ensures)
-          ∙ live-on (s .args .n) (s .args .t2) (s .args .t4) u (c .before .before .before .before .before .loop .m) (omega arith) (omega arith) (c .before .before .before .if1 .taken) (not-true _ (c .before .before .if2 .taken))
+          ∙ live-on (s .args .n) (s .args .t2) (s .args .t4) u (c .before .before .before .before .before .loop .m) (omega arith) (omega arith)
+          (c .before .before .before .if1 .taken) (not-true _ (c .before .before .if2 .taken))
           ∙ c .before .before .before .before .before .loop .inv .1,
     )
 
@@ -62,13 +64,17 @@ loop-again-2 c = let s = c .before .before .before in
     let m = c .before .before .loop .m in (
       omega arith,
       live-off (s .args .n) (s .args .t2) (s .args .t4) u m (omega arith)
-          (elim (c .if1 .came) [ inl p ↦ and-false (at m (u - 1)) (not (at (s .args .t4) (u - 1))) (p .1 .left) | inr q ↦ ap (λ (b : Bool). b && not (at (s .args .t4) (u - 1))) (q .left) ])
+          (elim (c .if1 .came) [
+            | inl p ↦ and-false (at m (u - 1)) (not (at (s .args .t4) (u - 1))) (p .1 .left)
+            | inr q ↦ ap (λ (b : Bool). b && not (at (s .args .t4) (u - 1))) (q .left)
+          ])
           ∙ c .before .before .loop .inv .1,
     )
 
 returns : tie.Need-returns Inv-loop μ-loop
 returns c = let s = c .before .before in
-    live-end (s .args .n) (s .args .t2) (s .args .t4) (c .before .loop .u) (c .before .loop .m) (omega arith) ∙ c .before .loop .inv .1 ∙ live-all (s .args .n) (s .args .t2) (s .args .t4) (s .args .probe) (s .pre .long)
+    live-end (s .args .n) (s .args .t2) (s .args .t4) (c .before .loop .u) (c .before .loop .m) (omega arith) ∙ c .before .loop .inv .1
+    ∙ live-all (s .args .n) (s .args .t2) (s .args .t4) (s .args .probe) (s .pre .long)
 
 pub live-marks-spec : {M : Type 1} → statement M
 live-marks-spec =

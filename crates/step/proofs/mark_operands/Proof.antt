@@ -2,7 +2,7 @@
 use mathlib.Core.Path.{sym, ap}
 use borrow.Author.Needs.{needs}
 use Rattle.document.specs.declared.Kind.{Kind}
-use Rattle.document.specs.Padding.{operandsOf}
+use Rattle.document.specs.Routine.{operandsOf}
 use Rattle.document.specs.Basics.{mark}
 use Rattle.step.proofs.mark_operands.Statement.{statement}
 use Rattle.step.proofs.mark_operands.Tie as tie
@@ -48,27 +48,33 @@ array-write-v-5 c = search needs
 
 returns : tie.Need-returns
 unfolding operandsOf mark
-returns c = let s = c .before .before .before .before in ap (λ (k : Kind). mark (operandsOf k (s .args .x .a) (s .args .x .b)) (s .args .m)) (sym (c .enum-told .given .1))
+returns c = let s = c .before .before .before .before in
+    ap (λ (k : Kind). mark (operandsOf k (s .args .x .a) (s .args .x .b)) (s .args .m)) (sym (c .enum-told .given .1))
 
 returns-2 : tie.Need-returns-2
 unfolding operandsOf mark
-returns-2 c = let s = c .before .before .before .before in ap (λ (k : Kind). mark (operandsOf k (s .args .x .a) (s .args .x .b)) (s .args .m)) (sym (c .enum-told2 .given .1))
+returns-2 c = let s = c .before .before .before .before in
+    ap (λ (k : Kind). mark (operandsOf k (s .args .x .a) (s .args .x .b)) (s .args .m)) (sym (c .enum-told2 .given .1))
 
 returns-3 : tie.Need-returns-3
 unfolding operandsOf mark
-returns-3 c = let s = c .before .before .before .before in ap (λ (k : Kind). mark (operandsOf k (s .args .x .a) (s .args .x .b)) (s .args .m)) (sym (c .enum-told3 .given .1))
+returns-3 c = let s = c .before .before .before .before in
+    ap (λ (k : Kind). mark (operandsOf k (s .args .x .a) (s .args .x .b)) (s .args .m)) (sym (c .enum-told3 .given .1))
 
 returns-4 : tie.Need-returns-4
 unfolding operandsOf mark
-returns-4 c = let s = c .before .before .before .before in ap (λ (k : Kind). mark (operandsOf k (s .args .x .a) (s .args .x .b)) (s .args .m)) (sym (c .enum-told4 .given .1))
+returns-4 c = let s = c .before .before .before .before in
+    ap (λ (k : Kind). mark (operandsOf k (s .args .x .a) (s .args .x .b)) (s .args .m)) (sym (c .enum-told4 .given .1))
 
 returns-5 : tie.Need-returns-5
 unfolding operandsOf mark
-returns-5 c = let s = c .before .before .before .before in ap (λ (k : Kind). mark (operandsOf k (s .args .x .a) (s .args .x .b)) (s .args .m)) (sym (c .enum-told5 .given .1))
+returns-5 c = let s = c .before .before .before .before in
+    ap (λ (k : Kind). mark (operandsOf k (s .args .x .a) (s .args .x .b)) (s .args .m)) (sym (c .enum-told5 .given .1))
 
 returns-6 : tie.Need-returns-6
 unfolding operandsOf mark
-returns-6 c = let s = c .before .before .before .before in ap (λ (k : Kind). mark (operandsOf k (s .args .x .a) (s .args .x .b)) (s .args .m)) (sym (c .enum-told6 .given .1))
+returns-6 c = let s = c .before .before .before .before in
+    ap (λ (k : Kind). mark (operandsOf k (s .args .x .a) (s .args .x .b)) (s .args .m)) (sym (c .enum-told6 .given .1))
 
 pub mark-operands-spec : {M : Type 1} → statement M
 mark-operands-spec =

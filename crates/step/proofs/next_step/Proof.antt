@@ -4,7 +4,7 @@ use mathlib.Core.List.{List}
 use mathlib.Core.Path.{ap, _∙_}
 use borrow.Author.Needs.{needs}
 use Rattle.document.specs.Padding.{lowestPad, padsBy}
-use Rattle.step.specs.Next.{next-is}
+use Rattle.step.specs.Laws.Next.{next-is}
 use Rattle.step.specs.Passes.{wired}
 use Rattle.step.proofs.next_step.Statement.{statement}
 use Rattle.step.proofs.next_step.Tie as tie
@@ -21,7 +21,8 @@ lowest-pad-requires c κs = search needs
 returns : tie.Need-returns
 returns c = let s = c .before .before .before in
     c .lowest-pad .ensures
-    ∙ ap (λ (a : List Bool). lowestPad (wired (s .args .n) (s .args .ws)) (padsBy (wired (s .args .n) (s .args .ws)) (s .args .probe) (s .args .leaf) a) (s .args .n) 0) (c .before .before .live-marks .ensures)
+    ∙ ap (λ (a : List Bool). lowestPad (wired (s .args .n) (s .args .ws)) (padsBy (wired (s .args .n) (s .args .ws)) (s .args .probe) (s .args .leaf) a)
+    (s .args .n) 0) (c .before .before .live-marks .ensures)
     ∙ next-is (s .args .n) (s .args .ws) (s .args .probe) (s .args .leaf) (s .pre .long)
 
 pub next-step-spec : {M : Type 1} → statement M

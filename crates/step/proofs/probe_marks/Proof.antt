@@ -6,7 +6,7 @@ use borrow.Author.Needs.{needs}
 use lib.ListN.{length, take, drop}
 use Rattle.document.specs.Padding.{probed}
 use Rattle.document.specs.Basics.{mark}
-use Rattle.step.specs.Passes.{probed-turn, probed-end}
+use Rattle.step.specs.Laws.Passes.{probed-turn, probed-end}
 use Rattle.step.proofs.probe_marks.Statement.{statement}
 use Rattle.step.proofs.probe_marks.Tie as tie
 
@@ -36,14 +36,18 @@ loop-less c = search needs
 
 loop-again : tie.Need-loop-again Inv-loop μ-loop
 loop-again c = let s = c .before .before .before in
-    let l : length (s .args .set .places) ≡ 4 = search needs in
-    (omega arith, sym (probed-turn (s .args .set .places) (s .args .set .len) (omega (arith, s .pre .at-most)) (c .before .loop .i) (c .before .loop .m) (omega arith)) ∙ c .before .loop .inv .1)
+    let l : length (s .args .set .places) ≡ 4 = search needs in (
+      omega arith,
+      sym (probed-turn (s .args .set .places) (s .args .set .len) (omega (arith, s .pre .at-most)) (c .before .loop .i) (c .before .loop .m)
+          (omega arith)) ∙ c .before .loop .inv .1,
+    )
 
 returns : tie.Need-returns Inv-loop μ-loop
 unfolding probed
 returns c = let s = c .before .before .before in
     let l : length (s .args .set .places) ≡ 4 = search needs in
-    sym (probed-end (s .args .set .places) (s .args .set .len) (omega (arith, s .pre .at-most)) (c .before .loop .i) (c .before .loop .m) (omega arith)) ∙ c .before .loop .inv .1
+    sym (probed-end (s .args .set .places) (s .args .set .len) (omega (arith, s .pre .at-most)) (c .before .loop .i) (c .before .loop .m) (omega arith))
+    ∙ c .before .loop .inv .1
 
 pub probe-marks-spec : {M : Type 1} → statement M
 probe-marks-spec =

@@ -4,7 +4,8 @@ use Prim.Native.Nat.{ℕ, _-_, _*_, _≤_}
 use native.Mathlib.Omega.{arith}
 use borrow.Author.Needs.{needs}
 use lib.ListN.{length}
-use Rattle.writer.specs.Parts.{section, section-none, section-longer}
+use Rattle.writer.specs.Parts.{section}
+use Rattle.writer.specs.Laws.Sections.{section-none, section-longer}
 use Rattle.writer.proofs.section_length.Statement.{statement}
 use Rattle.writer.proofs.section_length.Tie as tie
 

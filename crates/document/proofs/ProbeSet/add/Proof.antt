@@ -1,4 +1,4 @@
--- `document::ProbeSet::add` meets its contract. The places are those of the document's insertion.
+-- `document::ProbeSet::add` meets its contract. The places are those of the insertion that is defined.
 use mathlib.Core.List.{List}
 use mathlib.Core.Bool.{true}
 use mathlib.Core.Path.{_≡_, sym, ap, _∙_}
@@ -7,7 +7,8 @@ use native.Mathlib.Omega.{arith}
 use borrow.Author.Tests.{not-true, not-false}
 use borrow.Author.Needs.{needs}
 use lib.ListN.{length}
-use Rattle.document.specs.Laws.Placing.{placesWith, rank-fits, may-add-room, may-add-low, added, not-added}
+use Rattle.document.specs.Laws.Placing.{rank-fits, may-add-room, may-add-low, added, not-added}
+use Rattle.document.specs.Placing.{placesWith}
 use Rattle.document.specs.ProbeSets.{mayAdd}
 use Rattle.document.specs.declared.Added.{Added}
 use Rattle.document.specs.declared.Outcome.the-variants.{Done}

@@ -1,0 +1,3 @@
+-- The laws of bytes put into a buffer.
+pub mod Puts
+pub mod Beginning

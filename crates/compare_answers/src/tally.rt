@@ -1,0 +1,134 @@
+// What was compared and how often the answers differ, by kind; and how often each answer was given.
+use document::Which;
+
+pub const TEXTS: usize = 0;
+
+pub const DAMAGED: usize = 1;
+
+pub const WRITINGS: usize = 2;
+
+pub const RUNS: usize = 3;
+
+pub const RECORDS: usize = 4;
+
+pub const NEEDED: usize = 5;
+
+pub const STEPS: usize = 6;
+
+pub const PLAIN: usize = 7;
+
+pub const STRONG: usize = 8;
+
+pub const ADDITIONS: usize = 9;
+
+pub const EVEN: usize = 10;
+
+pub const LOWER: usize = 11;
+
+pub const LENT_READS: usize = 12;
+
+pub const LENT_SHORT: usize = 13;
+
+pub const LENT_WRITINGS: usize = 14;
+
+pub const LENT_RUNS: usize = 15;
+
+pub const LENT_NEEDED: usize = 16;
+
+pub const LENT_STEPS: usize = 17;
+
+pub const LENT_PLAIN: usize = 18;
+
+pub const LENT_STRONG: usize = 19;
+
+// Places 0 to 19: how many of a kind were compared. 20 to 39: how many of it differ. From 40 on: how often each refusal was given
+// (40: none). From 57 on: answers of each sort, where "not open" stands before "open".
+pub const DIFFER: usize = 20;
+
+pub const REFUSED: usize = 40;
+
+pub const PLAIN_PASS: usize = 57;
+
+pub const PLAIN_OPEN: usize = 58;
+
+pub const SETS_CLOSED: usize = 59;
+
+pub const SETS_OPEN: usize = 60;
+
+pub const STEPS_MADE: usize = 61;
+
+pub const STRONG_PASS: usize = 62;
+
+pub const STRONG_OPEN: usize = 63;
+
+// Where a judgement is counted: on values, over a list, and its passes.
+pub struct Places {
+    pub values: usize,
+    pub list: usize,
+    pub pass: usize,
+}
+
+pub fn places_of(which: Which) -> Places {
+    match which {
+        Which::Plain => Places {
+            values: PLAIN,
+            list: LENT_PLAIN,
+            pass: PLAIN_PASS,
+        },
+        Which::Strong => Places {
+            values: STRONG,
+            list: LENT_STRONG,
+            pass: STRONG_PASS,
+        },
+    }
+}
+
+pub fn none() -> [u64; 64] {
+    [0; 64]
+}
+
+pub fn at(t: [u64; 64], i: usize) -> u64 {
+    if i < 64 {
+        return t[i];
+    }
+    0
+}
+
+pub fn more(t: [u64; 64], i: usize, by: u64) -> [u64; 64] {
+    let mut u = t;
+    if i < 64 {
+        u[i] = std::num::wrapping_add_u64(u[i], by);
+    }
+    u
+}
+
+// One comparison of a kind, by which the answers were the same or not.
+pub fn compared(t: [u64; 64], kind: usize, same: bool) -> [u64; 64] {
+    let u = more(t, kind, 1);
+    if same {
+        return u;
+    }
+    more(u, std::num::wrapping_add_usize(kind, DIFFER), 1)
+}
+
+pub fn refused(t: [u64; 64], number: u64) -> [u64; 64] {
+    more(t, std::num::wrapping_add_usize(REFUSED, number as usize), 1)
+}
+
+pub fn outcome(t: [u64; 64], first: usize, is_open: bool) -> [u64; 64] {
+    if is_open {
+        return more(t, std::num::wrapping_add_usize(first, 1), 1);
+    }
+    more(t, first, 1)
+}
+
+// How many answers differ in all.
+pub fn differences(t: [u64; 64]) -> u64 {
+    let mut sum = 0;
+    let mut k = DIFFER;
+    while k < REFUSED {
+        sum = std::num::wrapping_add_u64(sum, at(t, k));
+        k += 1;
+    }
+    sum
+}

@@ -1,0 +1,54 @@
+-- `compare_judging::judged::compare_judged` is safe and ends.
+use Prim.Native.Nat.{_≤_, _-_}
+use borrow.Author.Needs.{needs}
+use Rattle.compare_judging.proofs.judged.compare_judged.Statement.{statement}
+use Rattle.compare_judging.proofs.judged.compare_judged.Tie as tie
+
+abbrev Inv-loop : tie.InvT-loop
+Inv-loop g d u₀ opened₀ order₀ u opened order = 0 ≤ order
+
+abbrev μ-loop : tie.MeasureT-loop
+μ-loop g d u₀ opened₀ order₀ u opened order = d - order
+
+loop-holds : tie.Need-loop-holds Inv-loop μ-loop
+loop-holds c = search needs
+
+at-requires : tie.Need-at-requires Inv-loop μ-loop
+at-requires c κs = search needs
+
+compare-order-requires : tie.Need-compare-order-requires Inv-loop μ-loop
+compare-order-requires c κs = search needs
+
+at-requires-2 : tie.Need-at-requires-2 Inv-loop μ-loop
+at-requires-2 c κs = search needs
+
+compare-lower-requires : tie.Need-compare-lower-requires Inv-loop μ-loop
+compare-lower-requires c κs = search needs
+
+add-order : tie.Need-add-order Inv-loop μ-loop
+add-order c = search needs
+
+loop-less : tie.Need-loop-less Inv-loop μ-loop
+loop-less c = search needs
+
+loop-again : tie.Need-loop-again Inv-loop μ-loop
+loop-again c = search needs
+
+returns : tie.Need-returns Inv-loop μ-loop
+returns c = search needs
+
+pub compare-judged-spec : {M : Type 1} → statement M
+compare-judged-spec =
+    tie.close
+    (tie.spec
+    Inv-loop
+    μ-loop
+    loop-holds
+    at-requires
+    compare-order-requires
+    at-requires-2
+    compare-lower-requires
+    add-order
+    loop-less
+    loop-again
+    returns)

@@ -1,0 +1,2 @@
+-- What is proved of the first records of a list.
+pub mod Blanks

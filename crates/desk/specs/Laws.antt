@@ -1,0 +1,2 @@
+-- The laws of what the desk program prints.
+pub mod Inputs

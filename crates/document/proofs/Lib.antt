@@ -1,0 +1,2 @@
+-- What proofs over the data share.
+pub mod Listings

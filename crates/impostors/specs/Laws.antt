@@ -1,0 +1,2 @@
+-- Answers that the contracts ask for, computed.
+pub mod Worked

@@ -1,0 +1,2 @@
+-- The laws of a read input.
+pub mod Inputs

@@ -1,0 +1,6 @@
+-- The laws of the search: of sets in order, of a turn, of wires passed over, of the sizes; and that there is one answer.
+pub mod Search
+pub mod Turns
+pub mod Skipping
+pub mod Sizes
+pub mod Once

@@ -1,0 +1,186 @@
+-- The sizes of sets one after the other: where none of a size is open, the next size is searched; and the answer of the whole.
+use mathlib.Core.Path.{_≡_, refl, sym, ap, _∙_, subst}
+use mathlib.Core.Bool.{Bool, true, false, _&&_, cond}
+use mathlib.Core.Logic.{inl, inr}
+use mathlib.Core.List.{List, [], _∷_}
+use Prim.Native.Nat.{ℕ, zero, suc, _+_, _-_, _*_, _^_, _≤_, _<_}
+use native.Mathlib.Nat.{pow-le-pow-left, pow-le-pow-right}
+use native.Mathlib.Decide.{le-ind}
+use native.Mathlib.Omega.{arith}
+use lib.Dec.{leb, ltb}
+use lib.ListN.{length, length-append}
+use Rattle.document.specs.Routine.{Routine, size, wellFormed, routineOf, recordsFit}
+use Rattle.document.specs.ProbeSets.{held, setOf, Asc}
+use Rattle.document.specs.Judgements.{isOpen, setsOf, setsInOrder, setsJudged, judgement, orderFits, judgedNot, judged, Among, NoneOpen, judgementOf}
+use Rattle.document.specs.Lent.{lent, lentJudged}
+use Rattle.document.specs.Laws.Tests.{clash, bool-cases, and-l, and-r, leb-true}
+use Rattle.document.specs.Laws.Sets.{sets←}
+use Rattle.document.specs.declared.Refusal.the-variants as No
+use Rattle.document.specs.declared.Judged.{Judged}
+use Rattle.document.specs.declared.Wire.{Wire}
+use Rattle.document.specs.declared.Shape.{Shape}
+use Rattle.records.specs.Laws.Fitting.{fit-of}
+use Rattle.rule.specs.Calls.{orderIn}
+use Rattle.cones.specs.Making.{TablesOf}
+use Rattle.cones.specs.Seen.{seeAll}
+use Rattle.document.specs.declared.Which.{Which}
+use Rattle.document.specs.declared.Which.the-variants.{Plain, Strong}
+use Rattle.growing.specs.declared.Question.{Question}
+use Rattle.growing.specs.declared.Found.{Found}
+use Rattle.growing.specs.declared.Grown.{Grown}
+use Rattle.growing.specs.Growing.{none, found, routineAsked, opensIn, Fits, nothingGrown, ClosedBelow}
+use Rattle.judge.specs.Search.{search, answerOf, onFrom, grow, foundUpTo, Searching}
+use Rattle.judge.specs.Laws.Search.{answer-is, search-append, grow-sets, sets-few}
+
+-- ---- how many sets there are
+
+sets-below : (k n : ℕ) → k ≤ 4 → n ≤ 128 → length (setsOf k n 0) ≤ 128 ^ 4
+sets-below k n h l = let a = sets-few k n 0 in let b : n ^ k ≤ 128 ^ k = pow-le-pow-left l k in
+    let c : 128 ^ k ≤ 128 ^ 4 = pow-le-pow-right (omega arith) h in omega arith
+
+in-order-below : (k n : ℕ) → k ≤ 4 → n ≤ 128 → length (setsInOrder k n) ≤ k * 128 ^ 4
+unfolding setsInOrder
+in-order-below zero n h l = omega arith
+in-order-below (suc k) n h l =
+    let a = in-order-below k n (omega arith) l in
+    let b = sets-below (suc k) n h l in
+    let c = length-append (setsInOrder k n) (setsOf (suc k) n 0) in
+    omega arith
+
+-- ---- from a size to the next
+
+module _ (opens : List ℕ → Bool) where
+  search-closed : (k : ℕ) (ss : List (List ℕ)) → search opens k ss .hit ≡ false → NoneOpen opens ss
+  unfolding search
+  search-closed k [] e ps m = absurd m
+  search-closed k (s ∷ ss) e ps m = go (opens s) refl e (λ f. search-closed (suc k) ss f ps) m
+    where
+      go : (b : Bool) → opens s ≡ b → cond b (found (suc k) s) (search opens (suc k) ss) .hit ≡ false
+          → (search opens (suc k) ss .hit ≡ false → Among ps ss → opens ps ≡ false) → Among ps (s ∷ ss) → opens ps ≡ false
+      go true q f rest m = clash refl f
+      go false q f rest (inl i) = ap opens i ∙ q
+      go false q f rest (inr m) = rest f m
+
+  search-all : (k : ℕ) (ss : List (List ℕ)) → search opens k ss .hit ≡ false → search opens k ss .count ≡ k + length ss
+  unfolding search
+  search-all k [] e = omega arith
+  search-all k (s ∷ ss) e = go (opens s) e (search-all (suc k) ss)
+    where
+      go : (b : Bool) → cond b (found (suc k) s) (search opens (suc k) ss) .hit ≡ false
+          → (search opens (suc k) ss .hit ≡ false → search opens (suc k) ss .count ≡ suc k + length ss)
+          → cond b (found (suc k) s) (search opens (suc k) ss) .count ≡ k + length (s ∷ ss)
+      go true f rest = clash refl f
+      go false f rest = let z = rest f in omega arith
+
+  pub found-none : (n : ℕ) → none 0 ≡ foundUpTo opens 0 n
+  unfolding foundUpTo setsInOrder search
+  found-none n = refl
+
+  up-suc : (k n : ℕ) → foundUpTo opens (suc k) n ≡ onFrom (foundUpTo opens k n) (λ j. search opens j (setsOf (suc k) n 0))
+  unfolding foundUpTo setsInOrder
+  up-suc k n = search-append opens 0 (setsInOrder k n) (setsOf (suc k) n 0)
+
+  -- a size more, where nothing was found
+  pub found-more : (k n : ℕ) (x y : Found) → x ≡ foundUpTo opens k n → x .hit ≡ false → y ≡ grow opens (k + 1) (n - 0) 0 [] (x .count)
+      → y ≡ foundUpTo opens (k + 1) n
+  unfolding onFrom
+  found-more k n x y e f q =
+      let z : n - 0 ≡ n = omega arith in
+      let p : suc k ≡ k + 1 = omega arith in
+      q ∙ ap (λ (m : ℕ). grow opens (k + 1) m 0 [] (x .count)) z ∙ grow-sets opens (k + 1) n (x .count)
+      ∙ ap (λ (j : ℕ). search opens (x .count) (setsOf j n 0)) (sym p)
+      ∙ sym (ap (λ (b : Bool). cond b x (search opens (x .count) (setsOf (suc k) n 0))) f)
+      ∙ ap (λ (w : Found). onFrom w (λ j. search opens j (setsOf (suc k) n 0))) e ∙ sym (up-suc k n) ∙ ap (λ (j : ℕ). foundUpTo opens j n) p
+
+  -- what is found stays found
+  pub found-stays : (k n m : ℕ) (x : Found) → k ≤ m → x ≡ foundUpTo opens k n → x .hit ≡ true → x ≡ foundUpTo opens m n
+  unfolding onFrom
+  found-stays k n m x h e t = le-ind (λ (j : ℕ). x ≡ foundUpTo opens j n) e
+      (λ j l i. sym (ap (λ (b : Bool). cond b x (search opens (x .count) (setsOf (suc j) n 0))) t)
+      ∙ ap (λ (w : Found). onFrom w (λ i. search opens i (setsOf (suc j) n 0))) i ∙ sym (up-suc j n)) m h
+
+  pub found-few : (k n : ℕ) (x : Found) → x ≡ foundUpTo opens k n → x .hit ≡ false → k < 4 → n ≤ 128 → x .count + length (setsOf (k + 1) (n - 0) 0) < 2 ^ 63
+  unfolding foundUpTo
+  found-few k n x e f h l =
+      let z : n - 0 ≡ n = omega arith in
+      let a = search-all 0 (setsInOrder k n) (sym (ap (λ (w : Found). w .hit) e) ∙ f) in
+      let b = in-order-below k n (omega arith) l in
+      let c = ap (λ (m : ℕ). length (setsOf (k + 1) m 0)) z in
+      let q = sets-below (k + 1) n (omega arith) l in
+      let r = ap (λ (w : Found). w .count) e in
+      omega arith
+
+-- ---- a search of one size
+
+-- where no set of 1 to k wires is open, no set of fewer than k + 1 is
+closed-below : (q : Question) (k : ℕ) → size (routineAsked q) ≡ q .listing .shape .n → foundUpTo (opensIn q) k (q .listing .shape .n) .hit ≡ false
+    → ClosedBelow q (k + 1)
+unfolding foundUpTo
+closed-below q k e f ps a p l = search-closed (opensIn q) 0 (setsInOrder k (q .listing .shape .n)) f ps
+    (sets← k (q .listing .shape .n) ps (subst (λ (m : ℕ). Asc 0 m ps) e a) p (omega arith))
+
+-- x is what is found among the sets of 1 to k wires, and the next size grows from g
+module _ (q : Question) (k : ℕ) (x : Found) (e : x ≡ foundUpTo (opensIn q) k (q .listing .shape .n)) (f : x .hit ≡ false) (g : Grown)
+    (b : g ≡ nothingGrown) where
+  pub size-asked : Fits q → (shares rands own : List ℕ) → TablesOf (q .listing .shape) (q .listing .wires) shares rands own → k < 4
+      → Searching q shares rands own (k + 1) 0 g (x .count)
+  unfolding setOf seeAll
+  size-asked fit shares rands own tables h =
+      let fi = fit-of (q .listing .shape) (q .listing .wires) fit in
+      subst (λ (y : Grown). Searching q shares rands own (k + 1) 0 y (x .count)) (sym b) (record {
+        fits = fit;
+        tables = tables;
+        below = omega arith;
+        room = omega arith;
+        grows = record { whole = refl; few = omega arith; ascends = tt; seen = refl };
+        smaller = λ qs a p l. closed-below q k (fi .sized) (sym (ap (λ (w : Found). w .hit) e) ∙ f) qs a p (omega arith);
+        counted = found-few (opensIn q) k (q .listing .shape .n) x e f h (fi .few);
+      })
+
+  pub size-found : (y : Found) → y ≡ grow (opensIn q) (k + 1) (q .listing .shape .n - 0) 0 (held (g .set)) (x .count)
+      → y ≡ foundUpTo (opensIn q) (k + 1) (q .listing .shape .n)
+  size-found y u = found-more (opensIn q) k (q .listing .shape .n) x y e f (u
+      ∙ ap (λ (z : Grown). grow (opensIn q) (k + 1) (q .listing .shape .n - 0) 0 (held (z .set)) (x .count)) b)
+
+-- ---- the answer
+
+module _ (which : Which) (σ : Shape) (ws : List Wire) (t : ℕ) where
+  abbrev R : Routine
+  R = routineOf σ ws
+
+  abbrev opens : List ℕ → Bool
+  opens = isOpen (judgementOf which) R t
+
+  pub not-records : recordsFit σ ws ≡ false → judgedNot No.Records ≡ lentJudged (judgementOf which) σ ws t
+  unfolding lentJudged lent judged recordsFit
+  not-records e = bool-cases (leb (σ .n) (length ws))
+      (λ p. let w : wellFormed R ≡ false = rw p at e in simp (p, w))
+      (λ p. simp p)
+
+  fit-parts : recordsFit σ ws ≡ true → (leb (σ .n) (length ws) ≡ true) × (wellFormed R ≡ true)
+  unfolding recordsFit
+  fit-parts e = (and-l (leb (σ .n) (length ws)) (wellFormed R) e, and-r (leb (σ .n) (length ws)) (wellFormed R) e)
+
+  pub not-order : recordsFit σ ws ≡ true → orderIn (σ .d) t ≡ false → judgedNot No.Order ≡ lentJudged (judgementOf which) σ ws t
+  unfolding lentJudged lent judged orderFits orderIn
+  not-order e o = let p = fit-parts e in simp (p .0, p .1, o)
+
+  pub judged-answer : recordsFit σ ws ≡ true → orderIn (σ .d) t ≡ true → (x : Found) → x ≡ foundUpTo opens (judgementOf which .largest t) (σ .n)
+      → (r : Judged) → r ≡ answerOf x
+      → r ≡ lentJudged (judgementOf which) σ ws t
+  unfolding lentJudged lent judged orderFits orderIn judgement setsJudged foundUpTo
+  judged-answer e o x q r a =
+      let p = fit-parts e in
+      let z = fit-of σ ws e .sized in
+      a ∙ ap answerOf (q ∙ ap (λ (m : ℕ). search opens 0 (setsInOrder (judgementOf which .largest t) m)) (sym z))
+      ∙ answer-is opens 0 (setsInOrder (judgementOf which .largest t) (size R)) ∙ simp (p .0, p .1, o)
+
+-- 12 passed
+pub order-low : (d t : ℕ) → orderIn d t ≡ true → 1 ≤ t
+unfolding orderIn
+order-low d t e = leb-true 1 t (and-l (leb 1 t) (leb t 4) (and-l (leb 1 t && leb t 4) (ltb t d) e))
+
+-- the sizes judged are at most four
+pub largest-few : (which : Which) (t : ℕ) → t ≤ 4 → judgementOf which .largest t ≤ 4
+largest-few Plain t h = h
+largest-few Strong t h = omega arith

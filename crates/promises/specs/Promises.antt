@@ -1,0 +1,42 @@
+-- What is promised, in the order of the demands (9.8 to 9.16 of docs/SPECIFICATION.md), each theorem named where it is proved. A call's theorem
+-- that it has one answer is named CALL-once; the contract that it speaks of stands over the call in its crate's src/, and docs/PROMISES.md has
+-- the runs and the must-fail edits beside it.
+
+-- ---- demand 1: every input has a definite answer. No call has a `requires`, each ends, and two answers that its contract allows are equal,
+-- with what is left in the lent list or buffer.
+
+-- reading, by value and into a lent list
+pub use Rattle.reader.specs.Laws.Once.{read-once}
+pub use Rattle.lent.specs.Laws.Once.{read-into-once}
+-- the test behind refusal 11, writing and running: of any list of records, by value or lent
+pub use Rattle.records.specs.Laws.Once.{fit-once}
+pub use Rattle.writer.specs.Laws.Once.{write-once}
+pub use Rattle.runner.specs.Laws.Once.{run-once}
+-- probe sets, the two calls on one set and the judging call: of any list of records, by value or lent
+pub use Rattle.document.specs.Laws.Answers.{empty-once, add-once}
+pub use Rattle.rule.specs.Laws.Once.{needs-once, pads-once}
+pub use Rattle.judge.specs.Laws.Once.{judge-once}
+-- what the desk program prints
+pub use Rattle.report.specs.Laws.Once.{report-once}
+-- ---- demand 2: each answer is the specification's own
+
+-- writing what was read gives the same text, and reading what was written the same routine; no routine has two texts, and no text two routines
+pub use Rattle.roundtrip.specs.TextTheorems.{text-again, read-written, written-whole, one-text, one-routine, text-length}
+-- refusal 11 is given exactly to what no text reads as
+pub use Rattle.roundtrip.specs.TextTheorems.{readable, records-readable}
+-- the worked examples, and the shortcuts that are not taken
+pub use Rattle.document.specs.Theorems.{examples, no-shortcuts}
+-- the padding rule is run to its end, which no order of steps changes; a probe more never frees a share
+pub use Rattle.document.specs.Theorems.{padding-ends, any-order, more-probes}
+-- the sets judged are all of them, in order and once each; a judgement passes exactly when none is open, and else has the first open one and its place
+pub use Rattle.document.specs.Theorems.{sets-are, sets-in-order, refused-records, refused-order, passes-exactly, open-first, first-opens}
+-- no impostor meets a contract
+pub use Rattle.impostors.specs.Impostors.{read-not-one, read-count, write-not-one, write-count, write-nothing, run-not-one, run-count, run-values}
+pub use Rattle.impostors.specs.Impostors.{needs-not-one, needs-not-always, needs-no-step, needs-first-step, pads-not-one, pads-not-always, pads-steps}
+pub use Rattle.impostors.specs.Impostors.{plain-not-one, strong-not-one, plain-count, strong-count}
+-- ---- demand 3: what a plain pass means
+
+-- it passes at every lower order
+pub use Rattle.document.specs.Theorems.{passes-below}
+-- any two choices of the secrets give each pattern of observed bits from the same number of starts
+pub use Rattle.document.specs.Theorems.{shows-nothing}

@@ -1,0 +1,3 @@
+-- Reading has one answer, and worked texts.
+pub mod Once
+pub mod TextExamples

@@ -1,0 +1,2 @@
+-- What the example answers.
+pub mod Passing
