@@ -152,22 +152,38 @@ def shown(lines):
     return "\n".join(out) + "\n"
 
 
-ADDITIONS = """\
-add 3: 0; 1: 3 0 0 0
-add 1: 0; 2: 1 3 0 0
-add 3: 13; 2: 1 3 0 0
-add 128: 13; 2: 1 3 0 0
-add 127: 0; 3: 1 3 127 0
-add 2: 0; 4: 1 2 3 127
-add 5: 13; 4: 1 2 3 127
-add 3: 0; 2: 3 5 9 11
-add 3: 13; 3: 5 5 9 11
-add 3: 13; 5: 1 2 4 6
-add 3: 13; 4: 1 2 4 6
-"""
+# ---- additions: a set is its four places and its length
+
+def added(places, length, wire):
+    held = places[:length]
+    if length >= 4 or wire > 127 or wire in held or held != sorted(set(held)):
+        return 13, places, length
+    return 0, sorted(held + [wire]) + places[length + 1:], length + 1
+
+
+# a building, wire by wire: one already there, one above 127, a fifth
+BUILT = [3, 1, 3, 128, 127, 2, 5]
+# additions to sets that no building gives: places behind the end, a wire twice, a length over four, a full set
+GIVEN = [([5, 7, 9, 11], 1, 3), ([5, 5, 9, 11], 3, 3), ([1, 2, 4, 6], 5, 3), ([1, 2, 4, 6], 4, 3)]
+
+
+def additions():
+    out, places, length = [], [0] * 4, 0
+
+    def show(wire, answer):
+        number, places, length = answer
+        out.append(f"add {wire}: {number}; {length}: {' '.join(map(str, places))}\n")
+        return places, length
+
+    for wire in BUILT:
+        places, length = show(wire, added(places, length, wire))
+    for given, size, wire in GIVEN:
+        show(wire, added(given, size, wire))
+    return "".join(out)
+
 
 if __name__ == "__main__":
     if sys.argv[1] == "stdin":
         sys.stdout.buffer.write(b"".join(text(*r) + b"\0" for r in ROUTINES))
     else:
-        sys.stdout.write("".join(shown(r) for r in ROUTINES) + ADDITIONS)
+        sys.stdout.write("".join(shown(r) for r in ROUTINES) + additions())
