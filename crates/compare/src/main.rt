@@ -7,7 +7,7 @@ use compare_making::chance;
 use compare_making::making;
 use compare_making::spoiling;
 use compare_texts::spelling;
-use document::Listing;
+use data::Listing;
 
 const SEED: u64 = 20261115;
 

@@ -4,18 +4,18 @@ use compare_lines::wires;
 use compare_rules::adding;
 use compare_rules::judging;
 use compare_rules::padding;
-use document::Added;
-use document::Filled;
-use document::Judged;
-use document::Needed;
-use document::Outcome;
-use document::Padded;
-use document::ProbeSet;
-use document::Read;
-use document::Refusal;
-use document::Shape;
-use document::Step;
-use document::Verdict;
+use data::Added;
+use data::Filled;
+use data::Judged;
+use data::Needed;
+use data::Outcome;
+use data::Padded;
+use data::ProbeSet;
+use data::Read;
+use data::Refusal;
+use data::Shape;
+use data::Step;
+use data::Verdict;
 
 // The number of a refusal in the table, said here again: the product's own is one of the things compared.
 fn number_of(f: Refusal) -> u64 {

@@ -1,5 +1,5 @@
 // What was compared and how often the answers differ, by kind; and how often each answer was given.
-use document::Which;
+use data::Which;
 
 pub const TEXTS: usize = 0;
 

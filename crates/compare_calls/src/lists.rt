@@ -4,11 +4,11 @@ use compare_answers::tally;
 use compare_lines::splitting;
 use compare_lines::wires;
 use compare_making::lending;
-use document::Listing;
-use document::Ran;
-use document::Shape;
-use document::Wire;
-use document::Written;
+use data::Listing;
+use data::Ran;
+use data::Shape;
+use data::Wire;
+use data::Written;
 
 // ---- reading
 

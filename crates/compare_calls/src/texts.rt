@@ -10,10 +10,10 @@ use compare_making::damaging;
 use compare_making::lending;
 use compare_texts::running;
 use compare_texts::spelling;
-use document::Listing;
-use document::Ran;
-use document::Shape;
-use document::Written;
+use data::Listing;
+use data::Ran;
+use data::Shape;
+use data::Written;
 
 // ---- reading
 

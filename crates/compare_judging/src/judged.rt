@@ -8,9 +8,9 @@ use compare_rules::judging;
 use compare_rules::starts;
 use compare_rules::starts::Small;
 use compare_rules::starts::Starts;
-use document::Listing;
-use document::Shape;
-use document::Which;
+use data::Listing;
+use data::Shape;
+use data::Which;
 
 // ---- starts
 
@@ -151,13 +151,13 @@ fn compare_lower(t: [u64; 64], opened: bool, is_open: bool) -> [u64; 64] {
     tally::compared(t, tally::LOWER, is_open | !opened)
 }
 
-// Every order that is judged, from the lowest.
+// Every order that is judged, from 1 to the lower of 4 and D - 1.
 fn compare_judged(t: [u64; 64], g: Listing) -> [u64; 64] {
-    let d = g.shape.d;
+    let end = data::lower(5, g.shape.d);
     let mut u = t;
     let mut opened = false;
     let mut order = 1;
-    while order < d {
+    while order < end {
         let before = tally::at(u, tally::PLAIN_OPEN);
         let v = compare_order(u, g, order);
         let is_open = tally::at(v, tally::PLAIN_OPEN) != before;
@@ -169,10 +169,11 @@ fn compare_judged(t: [u64; 64], g: Listing) -> [u64; 64] {
     u
 }
 
-// Order 0 and one at D or above are refused.
+// Order 0, order 5 and one at D or above are refused.
 pub fn compare_orders(t: [u64; 64], g: Listing, seed: u64) -> [u64; 64] {
     let u = compare_order(t, g, 0);
+    let v = compare_order(u, g, 5);
     let above = std::num::wrapping_add_usize(g.shape.d, chance::below(seed, 90, 3));
-    let v = compare_order(u, g, above);
-    compare_judged(v, g)
+    let w = compare_order(v, g, above);
+    compare_judged(w, g)
 }

@@ -7,8 +7,8 @@ use compare_making::lending;
 use compare_rules::adding;
 use compare_rules::judging;
 use compare_rules::padding;
-use document::Listing;
-use document::ProbeSet;
+use data::Listing;
+use data::ProbeSet;
 
 // ---- sets at random
 

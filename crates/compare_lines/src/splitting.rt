@@ -1,7 +1,7 @@
 // Reading a routine text byte by byte: letters are packed into a word, digits are added up, and a line is taken at its LF.
 use crate::wires;
-use document::Kind;
-use document::Wire;
+use data::Kind;
+use data::Wire;
 
 // What the bytes of the line have shown: of the field at hand its length, its letters in a word and its digits in a number;
 // of the fields before it how many, the word, whether the numbers were good, and the numbers.

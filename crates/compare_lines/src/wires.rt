@@ -1,6 +1,6 @@
 // Wire records one at a time: what they name, and what is counted of them.
-use document::Kind;
-use document::Wire;
+use data::Kind;
+use data::Wire;
 
 pub fn wide(b: u8) -> usize {
     b as usize

@@ -38,11 +38,11 @@ use denote.Triple.Entry.{onEntry}
 use denote.Triple.Spec.{Meets, tripleOf}
 use denote.Triple.Walked.{says, Stays, stay-none, walkOf, goes-none, Walks, ends-at, walked, walk-meets}
 use denote.Exit.{yes}
-use Rattle.document.specs.declared.Wire.{Wire}
-use Rattle.document.specs.declared.Shape.{Shape}
-use Rattle.document.proofs.Wire as W′
-use Rattle.document.proofs.Shape as S
-use Rattle.document.proofs.Shape.Laws as S′
+use Rattle.data.specs.declared.Wire.{Wire}
+use Rattle.data.specs.declared.Shape.{Shape}
+use Rattle.data.proofs.Wire as W′
+use Rattle.data.proofs.Shape as S
+use Rattle.data.proofs.Shape.Laws as S′
 use Rattle.copies.proofs.Arrays.{Records, records-val, records-tells, records-makes, records-typed}
 use Rattle.lent.proofs.Passed.{Passed}
 use Rattle.lent.proofs.OverList as Over

@@ -24,10 +24,10 @@ use denote.Slice.{sliceVal, MutSlice, ShrSlice, Room, finally}
 use denote.Lend.{Held, lends-slice, slice-back, lends-shr-slice}
 use denote.Steps.{only, owned, peeks}
 use denote.Struct.Laws as LL
-use Rattle.document.specs.declared.Wire.{Wire}
-use Rattle.document.proofs.Wire as T
+use Rattle.data.specs.declared.Wire.{Wire}
+use Rattle.data.proofs.Wire as T
 use Rattle.copies.proofs.Arrays.{Records, records-val, records-tells, records-makes}
-use Rattle.document.proofs.Wire.Laws as T′
+use Rattle.data.proofs.Wire.Laws as T′
 
 -- the type of the array in a local
 abbrev pub τ : ℕ → Ty

@@ -41,15 +41,15 @@ use denote.Triple.Entry.{onEntry}
 use denote.Triple.Spec.{Meets, tripleOf}
 use denote.Triple.Walked.{says, Stays, stay-none-slice, stay-none, walkOf, goes-none-slice, goes-none, Walks, ends-at, walked, walk-meets}
 use denote.Exit.{yes}
-use Rattle.document.specs.declared.Wire.{Wire}
-use Rattle.document.proofs.Wire as T
+use Rattle.data.specs.declared.Wire.{Wire}
+use Rattle.data.proofs.Wire as T
 use Rattle.copies.proofs.Arrays.{Records, records-val, records-tells, records-makes, records-typed}
 use Rattle.lent.proofs.read as callee
 use Rattle.lent.proofs.read.Symbol.{name as #callee}
 use Rattle.document.specs.Lent.{ReadsInto}
-use Rattle.document.specs.declared.Filled.{Filled}
-use Rattle.document.proofs.Filled as F
-use Rattle.document.proofs.Filled.Laws as F′
+use Rattle.data.specs.declared.Filled.{Filled}
+use Rattle.data.proofs.Filled as F
+use Rattle.data.proofs.Filled.Laws as F′
 use Rattle.lent.proofs.Passed.{Passed}
 use Rattle.lent.proofs.read as callee
 use Rattle.lent.proofs.read.Symbol.{name as #callee}

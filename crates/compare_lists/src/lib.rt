@@ -1,15 +1,15 @@
 // Arrays by value, lent as the list of each call over a lent list, so that a program can run those calls.
 // Reading takes lists of 130 records and of 127, which is too short; the other calls take one of 100, too short for a routine of more wires.
-use document::Filled;
-use document::Judged;
-use document::Needed;
-use document::Padded;
-use document::ProbeSet;
-use document::Ran;
-use document::Shape;
-use document::Which;
-use document::Wire;
-use document::Written;
+use data::Filled;
+use data::Judged;
+use data::Needed;
+use data::Padded;
+use data::ProbeSet;
+use data::Ran;
+use data::Shape;
+use data::Which;
+use data::Wire;
+use data::Written;
 ghost use mathlib.Core.Path.{_≡_};
 ghost use Rattle.document.specs.Judgements.{judgementOf};
 ghost use Rattle.document.specs.Lent.{lentNeeding, lentPadding, lentJudged, ReadsInto, WritesInto, RunsInto};

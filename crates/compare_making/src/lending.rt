@@ -1,9 +1,9 @@
 // Lists to lend: what they hold before, and those of 100 records.
 use compare_lines::wires;
-use document::Kind;
-use document::Listing;
-use document::Shape;
-use document::Wire;
+use data::Kind;
+use data::Listing;
+use data::Shape;
+use data::Wire;
 
 // What every record of a list holds before it is read into.
 pub fn content() -> Wire {

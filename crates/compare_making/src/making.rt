@@ -2,10 +2,10 @@
 use crate::chance;
 use compare_lines::splitting;
 use compare_lines::wires;
-use document::Kind;
-use document::Listing;
-use document::Shape;
-use document::Wire;
+use data::Kind;
+use data::Listing;
+use data::Shape;
+use data::Wire;
 
 // A routine in the making and the wires that hold the D shares of a value.
 struct Bundle {

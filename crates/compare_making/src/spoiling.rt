@@ -2,9 +2,9 @@
 use crate::chance;
 use crate::making;
 use compare_lines::wires;
-use document::Listing;
-use document::Shape;
-use document::Wire;
+use data::Listing;
+use data::Shape;
+use data::Wire;
 
 // A number near this one, or any small one.
 fn near(seed: u64, n: usize) -> usize {

@@ -1,6 +1,6 @@
 // Probe sets: whether they ascend, and the addition of a wire.
 use compare_lines::wires;
-use document::ProbeSet;
+use data::ProbeSet;
 
 fn place(set: ProbeSet, i: usize) -> usize {
     let places = set.places;

@@ -2,11 +2,11 @@
 use crate::padding;
 use compare_lines::wires;
 use compare_texts::spelling;
-use document::Listing;
-use document::ProbeSet;
-use document::Shape;
-use document::Which;
-use document::Wire;
+use data::Listing;
+use data::ProbeSet;
+use data::Shape;
+use data::Which;
+use data::Wire;
 
 // The lowest set of so many wires.
 pub fn first_set(size: usize) -> ProbeSet {

@@ -4,12 +4,12 @@ use compare_lines::wires;
 use compare_texts::marks;
 use compare_texts::marks::Marks;
 use compare_texts::spelling;
-use document::Kind;
-use document::Listing;
-use document::ProbeSet;
-use document::Shape;
-use document::Step;
-use document::Wire;
+use data::Kind;
+use data::Listing;
+use data::ProbeSet;
+use data::Shape;
+use data::Step;
+use data::Wire;
 
 // A step, if one was found.
 struct Pad {

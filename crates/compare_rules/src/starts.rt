@@ -1,8 +1,8 @@
 // Demand 3 by counting: every start of a small routine is run, and for each set each pattern is counted under each choice of secrets.
 use compare_lines::wires;
 use compare_texts::running;
-use document::Listing;
-use document::ProbeSet;
+use data::Listing;
+use data::ProbeSet;
 
 // A small routine, at most 10 bits of shares and randoms and at most 64 wires; how many shares and how many starts it has.
 pub struct Small {

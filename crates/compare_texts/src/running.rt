@@ -3,10 +3,10 @@ use crate::marks;
 use crate::marks::Marks;
 use crate::spelling;
 use compare_lines::wires;
-use document::Kind;
-use document::Listing;
-use document::Shape;
-use document::Wire;
+use data::Kind;
+use data::Listing;
+use data::Shape;
+use data::Wire;
 
 // No bit at or above the count is set.
 fn is_within(word: u64, count: usize) -> bool {

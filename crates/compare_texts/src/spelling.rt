@@ -1,10 +1,10 @@
 // A routine's text, put byte by byte; and the test of refusal 11: what is read back from that text are the same records.
 use compare_lines::splitting;
 use compare_lines::wires;
-use document::Kind;
-use document::Listing;
-use document::Shape;
-use document::Wire;
+use data::Kind;
+use data::Listing;
+use data::Shape;
+use data::Wire;
 
 const TAB: u8 = 9;
 

@@ -1,8 +1,8 @@
 // What each wire is computed from, as words: shares, randoms, and randoms of its own.
-use document::Kind;
-use document::Listing;
-use document::Shape;
-use document::Wire;
+use data::Kind;
+use data::Listing;
+use data::Shape;
+use data::Wire;
 use records::Counts;
 ghost use mathlib.Core.Path.{_≡_};
 ghost use mathlib.Core.Bool.{true, cond};

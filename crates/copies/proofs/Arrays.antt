@@ -11,9 +11,9 @@ use denote.RattleType.{RattleType}
 use denote.Laws.{Is, Makes, Typed}
 use denote.Array.{Array, array-vals, array-tells, array-typed, array-makes}
 use denote.Struct.Laws as LL
-use Rattle.document.specs.declared.Wire.{Wire}
-use Rattle.document.proofs.Wire as T
-use Rattle.document.proofs.Wire.Laws as T′
+use Rattle.data.specs.declared.Wire.{Wire}
+use Rattle.data.proofs.Wire as T
+use Rattle.data.proofs.Wire.Laws as T′
 
 abbrev pub Records : ℕ → RattleType
 Records n = Array T.the-row n

@@ -7,7 +7,7 @@ use native.Mathlib.Nat.{le-of-suc-le-suc, not-suc-le-zero}
 use lib.Dec.{T as Holds}
 use lib.ListN.{length, set, take, drop, getD}
 use Rattle.document.specs.Routine.{blank}
-use Rattle.document.specs.declared.Wire.{Wire}
+use Rattle.data.specs.declared.Wire.{Wire}
 
 -- the first i of ws, and then what ys has from i on
 abbrev pub mix : List Wire → List Wire → ℕ → List Wire

@@ -1,8 +1,8 @@
 // Records copied between a lent list and an array by value.
 // Every function that has the list is straight-line or one loop, and tests nothing: functions that have an array or numbers decide.
-use document::Listing;
-use document::Shape;
-use document::Wire;
+use data::Listing;
+use data::Shape;
+use data::Wire;
 ghost use mathlib.Core.Path.{_≡_};
 ghost use mathlib.Core.List.{_++_};
 ghost use Prim.Native.Nat.{_≤_, _<_};
@@ -31,7 +31,7 @@ fn fetch(list: &[Wire], k: usize) -> [Wire; 128]
     requires { ⌜ (k ≤ 128) × (k ≤ length (now list)) ⌝ }
     ensures { λ r. ⌜ r ≡ fetched k (now (list .entry)) ⌝ }
 {
-    let mut ws = document::blank_wires();
+    let mut ws = listing::blank_wires();
     let mut i = 0;
     while i < k {
         ws = with_record(ws, i, list[i]);

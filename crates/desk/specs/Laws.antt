@@ -1,2 +1,3 @@
 -- The laws of what the desk program prints.
 pub mod Inputs
+pub mod Worth

@@ -1,20 +1,22 @@
 -- What the desk program prints (section 8 of docs/SPECIFICATION.md).
+use mathlib.Core.Path.{_≡_}
 use mathlib.Core.Bool.{cond}
+use mathlib.Core.Logic.{_⊎_}
 use mathlib.Core.List.{List, [], _∷_, _++_, map}
 use Prim.Native.Nat.{ℕ, zero, suc, _+_, _-_, _/_, _%_, min}
 use lib.Dec.{ltb}
 use Rattle.document.specs.Routine.{Routine}
 use Rattle.document.specs.Lines.{join, lf, digitZero}
 use Rattle.document.specs.Reading.{reading, routineIn}
-use Rattle.document.specs.ProbeSets.{held}
-use Rattle.document.specs.Judgements.{Judgement, plain, strong, judged}
-use Rattle.document.specs.Refusals.{numberOf}
-use Rattle.document.specs.declared.Outcome.{Outcome}
-use Rattle.document.specs.declared.Outcome.the-variants.{Done, Refused}
-use Rattle.document.specs.declared.Read.{Read}
-use Rattle.document.specs.declared.Verdict.{Verdict}
-use Rattle.document.specs.declared.Verdict.the-variants as Says
-use Rattle.document.specs.declared.Judged.{Judged}
+use Rattle.data.specs.ProbeSets.{held}
+use Rattle.document.specs.Judgements.{plain, strong, judged}
+use Rattle.data.specs.Refusals.{numberOf}
+use Rattle.data.specs.declared.Outcome.{Outcome}
+use Rattle.data.specs.declared.Outcome.the-variants.{Done, Refused}
+use Rattle.data.specs.declared.Read.{Read}
+use Rattle.data.specs.declared.Verdict.{Verdict}
+use Rattle.data.specs.declared.Verdict.the-variants as Says
+use Rattle.data.specs.declared.Judged.{Judged}
 
 -- 8.10: a number of at most k digits in base ten
 unfoldable pub digits : ℕ → ℕ → List ℕ
@@ -76,3 +78,16 @@ textLines (Refused f) r = printedLine (refusedWord ∷ printed (numberOf f) ∷ 
 -- 8.5 to 8.8: what is printed of a text
 unfoldable pub deskPrints : List ℕ → List ℕ
 deskPrints text = textLines (reading text .outcome) (reading text)
+
+-- ---- words of the statements
+
+-- 8.7: the line `plain t pass c`
+abbrev pub passLine : ℕ → ℕ → List ℕ
+passLine t c = printedLine (plainWord ∷ printed t ∷ passWord ∷ printed c ∷ [])
+
+-- 8.9: the line, with its LF, stands in what is printed, and at its start or behind an LF
+pub record HasLine (line out : List ℕ) : Type 0 where
+  pub before : List ℕ
+  pub after : List ℕ
+  pub splits : out ≡ before ++ (line ++ after)
+  pub begins : (before ≡ []) ⊎ ((b : List ℕ) × (before ≡ b ++ lf ∷ []))

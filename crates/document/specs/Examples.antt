@@ -4,15 +4,16 @@ use mathlib.Core.Bool.{Bool, true, false}
 use mathlib.Core.List.{List, [], _∷_}
 use Prim.Native.Nat.{ℕ}
 use Rattle.document.specs.Routine.{Routine}
-use Rattle.document.specs.ProbeSets.{setOf}
+use Rattle.document.specs.Running.{bit, bitValues, whole-running}
+use Rattle.data.specs.ProbeSets.{setOf}
 use Rattle.document.specs.Padding.{steps}
 use Rattle.document.specs.Judgements.{plain, strong, passed, opened, judged, needing, whole-judgements}
-use Rattle.document.specs.declared.Kind.the-variants.{Share, Rand, Pub, Xor, And, Not}
-use Rattle.document.specs.declared.Wire.{Wire}
-use Rattle.document.specs.declared.Outcome.the-variants.{Done}
-use Rattle.document.specs.declared.Step.{Step}
-use Rattle.document.specs.declared.Needed.{Needed}
-use Rattle.document.specs.declared.Judged.{Judged}
+use Rattle.document.specs.Starts.{patternCount, whole-starts}
+use Rattle.data.specs.declared.Kind.the-variants.{Share, Rand, Pub, Xor, And, Not}
+use Rattle.data.specs.declared.Wire.{Wire}
+use Rattle.data.specs.declared.Outcome.the-variants.{Done}
+use Rattle.data.specs.declared.Step.{Step}
+use Rattle.data.specs.declared.Judged.{Judged}
 
 -- ---- the routines
 
@@ -23,6 +24,9 @@ share i j = record { kind = Share; a = i; b = j; out = false }
 -- the wires of other kinds that the examples have, without the output mark
 abbrev rand : Wire
 rand = record { kind = Rand; a = 0; b = 0; out = false }
+
+abbrev public : Wire
+public = record { kind = Pub; a = 0; b = 0; out = false }
 
 abbrev xor : ℕ → ℕ → Wire
 xor a b = record { kind = Xor; a = a; b = b; out = false }
@@ -152,3 +156,37 @@ pub lines : (judged plain exampleA 1 ≡ passed 9)
     × (judged strong exampleA 2 ≡ passed 9)
 unfolding whole-judgements
 lines = (refl, refl, refl, refl)
+
+-- ---- the strong bound
+
+-- 10.28: of three shares and no other wire, each set of one wire needs just that share, and is not open; if share 0 is an output, {0} may need none
+pub bounds : (judged strong (thirds []) 2 ≡ passed 3)
+    × (judged strong (record { S = 1; D = 3; wires = out (share 0 0) ∷ share 0 1 ∷ share 0 2 ∷ [] }) 2 ≡ opened 1 (0 ∷ []))
+unfolding whole-judgements
+bounds = (refl, refl)
+
+-- ---- a run
+
+-- 10.29: two wires of each kind
+abbrev pub exampleRun : Routine
+exampleRun = halves (rand ∷ rand ∷ public ∷ public ∷ xor 0 2 ∷ xor 1 2 ∷ and 0 2 ∷ and 1 2 ∷ not 4 ∷ not 5 ∷ [])
+
+-- 10.29: its values for the share bits 0, 1, the random bits 1, 0 and the public bits 0, 1
+pub values : bitValues exampleRun 2 1 2 ≡ 0 ∷ 1 ∷ 1 ∷ 0 ∷ 0 ∷ 1 ∷ 1 ∷ 0 ∷ 0 ∷ 1 ∷ 1 ∷ 0 ∷ []
+unfolding whole-running
+values = refl
+
+-- ---- pattern counts
+
+-- 10.30: counts of single patterns, computed start by start
+pub counts :
+    -- 10.8: in B, wire 2 shows 1 from no start of secret 0 and from both starts of secret 1, so counts can differ
+    (patternCount bit exampleB [] (2 ∷ []) (1 ∷ []) (0 ∷ []) ≡ 0)
+    × (patternCount bit exampleB [] (2 ∷ []) (1 ∷ []) (1 ∷ []) ≡ 2)
+    -- 10.3: in A, wires 7 and 8 show 1, 0 from 4 of the 16 starts, for either secret
+    × (patternCount bit exampleA [] (7 ∷ 8 ∷ []) (1 ∷ 0 ∷ []) (0 ∷ []) ≡ 4)
+    × (patternCount bit exampleA [] (7 ∷ 8 ∷ []) (1 ∷ 0 ∷ []) (1 ∷ []) ≡ 4)
+    -- 9.2: in A, the random at wire 3 shows 1 from half of them
+    × (patternCount bit exampleA [] (3 ∷ []) (1 ∷ []) (0 ∷ []) ≡ 8)
+unfolding whole-starts
+counts = (refl, refl, refl, refl, refl)

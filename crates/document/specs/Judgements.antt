@@ -6,22 +6,23 @@ use mathlib.Core.List.{List, [], _∷_, _++_, map}
 use Prim.Native.Nat.{ℕ, zero, suc, _+_, _-_, _<_}
 use lib.Dec.{ltb, leb}
 use lib.ListN.{length, take, replicate}
-use Rattle.document.specs.Basics.{some, each, keep}
+use Rattle.data.specs.Basics.{some, each, keep, Among}
+use Rattle.data.specs.Refusals.{numberOf}
 use Rattle.document.specs.Routine.{Routine, size, wire, wellFormed}
-use Rattle.document.specs.ProbeSets.{held, ascending, emptySet, setOf, whole-sets}
+use Rattle.data.specs.ProbeSets.{held, ascending, emptySet, setOf, whole-sets}
 use Rattle.document.specs.Padding.{steps, neededShares, neededOf, whole-rule}
-use Rattle.document.specs.declared.Refusal.{Refusal}
-use Rattle.document.specs.declared.Refusal.the-variants as No
-use Rattle.document.specs.declared.Outcome.the-variants.{Done, Refused}
-use Rattle.document.specs.declared.Verdict.{Verdict}
-use Rattle.document.specs.declared.Verdict.the-variants as Says
-use Rattle.document.specs.declared.ProbeSet.{ProbeSet}
-use Rattle.document.specs.declared.Step.{Step}
-use Rattle.document.specs.declared.Needed.{Needed}
-use Rattle.document.specs.declared.Padded.{Padded}
-use Rattle.document.specs.declared.Judged.{Judged}
-use Rattle.document.specs.declared.Which.{Which}
-use Rattle.document.specs.declared.Which.the-variants as Ask
+use Rattle.data.specs.declared.Refusal.{Refusal}
+use Rattle.data.specs.declared.Refusal.the-variants as No
+use Rattle.data.specs.declared.Outcome.the-variants.{Done, Refused}
+use Rattle.data.specs.declared.Verdict.{Verdict}
+use Rattle.data.specs.declared.Verdict.the-variants as Says
+use Rattle.data.specs.declared.ProbeSet.{ProbeSet}
+use Rattle.data.specs.declared.Step.{Step}
+use Rattle.data.specs.declared.Needed.{Needed}
+use Rattle.data.specs.declared.Padded.{Padded}
+use Rattle.data.specs.declared.Judged.{Judged}
+use Rattle.data.specs.declared.Which.{Which}
+use Rattle.data.specs.declared.Which.the-variants as Ask
 
 -- 5.1: up to what size sets are judged at order t, what of a set is taken as probed, and how many shares a secret may need
 pub record Judgement : Type 0 where
@@ -64,6 +65,19 @@ setsInOrder (suc k) m = setsInOrder k m ++ setsOf (suc k) m 0
 -- 5.8: the sets of a judgement, drawn from all n wires
 unfoldable pub setsJudged : Judgement → Routine → ℕ → List (List ℕ)
 setsJudged J R t = setsInOrder (J .largest t) (size R)
+
+-- 5.14: what a verdict says: that it is a pass, or that it is open; the count; the number of its refusal
+pub record Told : Type 0 where
+  pub passes : Bool
+  pub opens : Bool
+  pub count : ℕ
+  pub number : ℕ
+
+-- 5.14, 7.25: a pass and an open verdict have their count and the number 0; a refusal has its number and the count 0
+abbrev pub told : Verdict → Told
+told (Says.Pass k) = record { passes = true; opens = false; count = k; number = 0 }
+told (Says.Open k) = record { passes = false; opens = true; count = k; number = 0 }
+told (Says.Refused f) = record { passes = false; opens = false; count = 0; number = numberOf f }
 
 -- 5.14, 5.15: a pass has its count and the empty set
 abbrev pub passed : ℕ → Judged
@@ -135,11 +149,6 @@ unfolding whole-rule whole-sets inner isOpen setsOf setsInOrder setsJudged first
 whole-judgements = tt
 
 -- ---- words of the statements
-
--- 5.17: the set stands in the list
-abbrev pub Among : List ℕ → List (List ℕ) → Type 0
-Among s [] = ⊥
-Among s (x ∷ xs) = (s ≡ x) ⊎ Among s xs
 
 -- 5.9: at the first place where they differ, the first set is lower
 abbrev pub Lower : List ℕ → List ℕ → Type 0

@@ -1,7 +1,6 @@
 -- The laws of the definitions, from small to large; each file says of what.
-pub mod Tests
+pub mod Lists
 pub mod Cuts
-pub mod Placing
 pub mod Marks
 pub mod Rule
 pub mod Live
@@ -16,6 +15,9 @@ pub mod Needed
 pub mod Sets
 pub mod Judging
 pub mod Observing
+pub mod Starts
 pub mod Orders
 pub mod Secrecy
+pub mod Printed
+pub mod Worth
 pub mod Answers

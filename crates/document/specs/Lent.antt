@@ -1,5 +1,5 @@
 -- The calls over a lent list of records, and a read into one (section 6 of docs/SPECIFICATION.md).
-use mathlib.Core.Path.{_≡_, sym, _∙_}
+use mathlib.Core.Path.{_≡_}
 use mathlib.Core.Bool.{cond}
 use mathlib.Core.List.{List, _++_}
 use Prim.Native.Nat.{ℕ}
@@ -10,20 +10,20 @@ use Rattle.document.specs.Reading.{reading, notRead}
 use Rattle.document.specs.Running.{ran, ranInto}
 use Rattle.document.specs.Writing.{written, writtenInto}
 use Rattle.document.specs.Judgements.{Judgement, judged, judgedNot, needing, neededNot, padding, paddedNot}
-use Rattle.document.specs.declared.Wire.{Wire}
-use Rattle.document.specs.declared.Shape.{Shape}
-use Rattle.document.specs.declared.Listing.{Listing}
-use Rattle.document.specs.declared.Read.{Read}
-use Rattle.document.specs.declared.Filled.{Filled}
-use Rattle.document.specs.declared.Outcome.{Outcome}
-use Rattle.document.specs.declared.Refusal.the-variants as No
-use Rattle.document.specs.declared.Outcome.the-variants.{Done, Refused}
-use Rattle.document.specs.declared.ProbeSet.{ProbeSet}
-use Rattle.document.specs.declared.Written.{Written}
-use Rattle.document.specs.declared.Ran.{Ran}
-use Rattle.document.specs.declared.Needed.{Needed}
-use Rattle.document.specs.declared.Padded.{Padded}
-use Rattle.document.specs.declared.Judged.{Judged}
+use Rattle.data.specs.declared.Wire.{Wire}
+use Rattle.data.specs.declared.Shape.{Shape}
+use Rattle.data.specs.declared.Listing.{Listing}
+use Rattle.data.specs.declared.Read.{Read}
+use Rattle.data.specs.declared.Filled.{Filled}
+use Rattle.data.specs.declared.Outcome.{Outcome}
+use Rattle.data.specs.declared.Refusal.the-variants as No
+use Rattle.data.specs.declared.Outcome.the-variants.{Done, Refused}
+use Rattle.data.specs.declared.ProbeSet.{ProbeSet}
+use Rattle.data.specs.declared.Written.{Written}
+use Rattle.data.specs.declared.Ran.{Ran}
+use Rattle.data.specs.declared.Needed.{Needed}
+use Rattle.data.specs.declared.Padded.{Padded}
+use Rattle.data.specs.declared.Judged.{Judged}
 
 -- ---- reading into a lent list
 

@@ -1,15 +1,15 @@
 -- The lines of a routine text by their form (section 1 of docs/SPECIFICATION.md): fields, numbers, words.
-use mathlib.Core.Bool.{Bool, true, false, _&&_, cond}
+use mathlib.Core.Bool.{Bool, _&&_, cond}
 use mathlib.Core.List.{List, [], _∷_, _++_, map}
 use Prim.Native.Nat.{ℕ, _+_, _*_, _-_, _/_, _%_}
 use lib.Dec.{eqb, ltb, leb}
-use Rattle.document.specs.Basics.{same, whole-basics}
-use Rattle.document.specs.declared.Number.{Number}
-use Rattle.document.specs.declared.Number.the-variants.{Bad, Is}
-use Rattle.document.specs.declared.Word.{Word}
-use Rattle.document.specs.declared.Word.the-variants.{Other, Routine, Rand, Pub, Xor, And, Not, Out}
-use Rattle.document.specs.declared.Line.{Line}
-use Rattle.document.specs.declared.Line.the-variants as L
+use Rattle.data.specs.Basics.{same, whole-basics}
+use Rattle.data.specs.declared.Number.{Number}
+use Rattle.data.specs.declared.Number.the-variants.{Bad, Is}
+use Rattle.data.specs.declared.Word.{Word}
+use Rattle.data.specs.declared.Word.the-variants.{Other, Routine, Rand, Pub, Xor, And, Not, Out}
+use Rattle.data.specs.declared.Line.{Line}
+use Rattle.data.specs.declared.Line.the-variants as L
 
 -- ---- 1.3: bytes by name: what parts fields, what closes a line, and the digits
 

@@ -1,18 +1,18 @@
 -- The padding rule (section 3 of docs/SPECIFICATION.md).
 use mathlib.Core.Path.{_≡_}
 use mathlib.Core.Bool.{Bool, true, false, not, _&&_, _||_, cond}
+use mathlib.Core.Logic.{_⊎_}
 use mathlib.Core.List.{List, [], _∷_, map}
 use mathlib.Core.Option.{Option, none, some}
-use Prim.Native.Nat.{ℕ, zero, suc, _+_, _*_, _/_, _%_, _^_, min, max}
+use Prim.Native.Nat.{ℕ, zero, suc, _+_, _*_, _/_, _%_, _^_, _≤_, _<_, min, max}
 use lib.Count.{ones, onesIn}
 use lib.Dec.{eqb}
 use lib.ListN.{set, replicate}
-use Rattle.document.specs.Basics.{one, all, elem, Marks, at, mark}
+use Rattle.data.specs.Basics.{one, all, elem, Marks, at, mark}
 use Rattle.document.specs.Routine.{Routine, size, wire, isRand, operands, whole-routine}
-use Rattle.document.specs.declared.Kind.{Kind}
-use Rattle.document.specs.declared.Kind.the-variants.{Share, Rand, Pub, Xor, And, Not}
-use Rattle.document.specs.declared.Wire.{Wire}
-use Rattle.document.specs.declared.Step.{Step}
+use Rattle.data.specs.declared.Kind.{Kind}
+use Rattle.data.specs.declared.Kind.the-variants.{Share, Rand, Pub, Xor, And, Not}
+use Rattle.data.specs.declared.Step.{Step}
 
 -- 3.2: 128 marks, none of them set
 abbrev pub unmarked : Marks
@@ -110,9 +110,13 @@ steps R ps = stepsFrom R (probed ps) (size R) (firstLeaves R)
 abbrev pub paddedWires : List Step → List ℕ
 paddedWires ss = map (λ s. s .w) ss
 
+-- 3.14: the leaves after these steps
+abbrev pub leavesAfter : List Step → Marks → Marks
+leavesAfter ss leaf = mark (paddedWires ss) leaf
+
 -- 3.19: the leaves when the rule has ended
 unfoldable pub lastLeaves : Routine → List ℕ → Marks
-lastLeaves R ps = mark (paddedWires (steps R ps)) (firstLeaves R)
+lastLeaves R ps = leavesAfter (steps R ps) (firstLeaves R)
 
 -- 3.26: the wires that are live when the rule has ended
 unfoldable pub liveAtEnd : Routine → List ℕ → Marks
@@ -147,11 +151,21 @@ whole-rule = tt
 
 -- ---- words of the statements
 
--- 3.20: allowed steps, one after the other, from the leaves L₀ to the leaves L
-pub data Allowed (R : Routine) (probe L₀ : Marks) : Marks → Type 0 where
-  begin : Allowed R probe L₀ L₀
-  pad : {L : Marks} → Allowed R probe L₀ L → (w r : ℕ) → canPad R probe L w r ≡ true → Allowed R probe L₀ (stepped L w)
+-- 3.20: a list of steps, each allowed in the state that those before it leave
+abbrev pub Allowed : Routine → Marks → Marks → List Step → Type 0
+Allowed R probe leaf [] = Unit {0}
+Allowed R probe leaf (s ∷ ss) = (canPad R probe leaf (s .w) (s .r) ≡ true) × Allowed R probe (stepped leaf (s .w)) ss
 
 -- 3.21: no step is left
 abbrev pub Stuck : Routine → Marks → Marks → Type 0
-Stuck R probe L = (w r : ℕ) → canPad R probe L w r ≡ false
+Stuck R probe leaf = (w r : ℕ) → canPad R probe leaf w r ≡ false
+
+-- 3.16, 3.17: no lower wire can be padded, nor this one by a lower operand
+abbrev pub Lowest : Routine → Marks → Marks → Step → Type 0
+Lowest R probe leaf s = (w r : ℕ) → canPad R probe leaf w r ≡ true → (s .w < w) ⊎ ((s .w ≡ w) × (s .r ≤ r))
+
+-- 3.16 to 3.19: the run of the rule: each step is allowed, and the lowest, in the state that those before it leave; after the last none is
+abbrev pub RuleRun : Routine → Marks → Marks → List Step → Type 0
+RuleRun R probe leaf [] = Stuck R probe leaf
+RuleRun R probe leaf (s ∷ ss) =
+    (canPad R probe leaf (s .w) (s .r) ≡ true) × Lowest R probe leaf s × RuleRun R probe (stepped leaf (s .w)) ss

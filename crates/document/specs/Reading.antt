@@ -5,23 +5,23 @@ use mathlib.Core.List.{List, [], _∷_}
 use Prim.Native.Nat.{ℕ, zero, suc, _+_, _-_, _*_, _/_, _%_}
 use lib.Dec.{eqb, ltb, leb}
 use lib.ListN.{length, getD, set, take, replicate}
-use Rattle.document.specs.Basics.{one, each}
+use Rattle.data.specs.Basics.{one, each}
 use Rattle.document.specs.Routine.{whole-routine, Routine, blank, isRand, isPub, operandsOf, inRange, routineOf}
 use Rattle.document.specs.Lines.{whole-lines, linesIn, digit, tab, lf}
-use Rattle.document.specs.declared.Kind.{Kind}
-use Rattle.document.specs.declared.Kind.the-variants as K
-use Rattle.document.specs.declared.Wire.{Wire}
-use Rattle.document.specs.declared.Line.{Line}
-use Rattle.document.specs.declared.Line.the-variants as L
-use Rattle.document.specs.declared.Refusal.{Refusal}
-use Rattle.document.specs.declared.Refusal.the-variants as No
-use Rattle.document.specs.declared.Outcome.{Outcome}
-use Rattle.document.specs.declared.Outcome.the-variants.{Done, Refused}
-use Rattle.document.specs.declared.State.{State}
-use Rattle.document.specs.declared.Taken.{Taken}
-use Rattle.document.specs.declared.Read.{Read}
-use Rattle.document.specs.declared.Shape.{Shape}
-use Rattle.document.specs.declared.Listing.{Listing}
+use Rattle.data.specs.declared.Kind.{Kind}
+use Rattle.data.specs.declared.Kind.the-variants as K
+use Rattle.data.specs.declared.Wire.{Wire}
+use Rattle.data.specs.declared.Line.{Line}
+use Rattle.data.specs.declared.Line.the-variants as L
+use Rattle.data.specs.declared.Refusal.{Refusal}
+use Rattle.data.specs.declared.Refusal.the-variants as No
+use Rattle.data.specs.declared.Outcome.{Outcome}
+use Rattle.data.specs.declared.Outcome.the-variants.{Done, Refused}
+use Rattle.data.specs.declared.State.{State}
+use Rattle.data.specs.declared.Taken.{Taken}
+use Rattle.data.specs.declared.Read.{Read}
+use Rattle.data.specs.declared.Shape.{Shape}
+use Rattle.data.specs.declared.Listing.{Listing}
 
 -- ---- one line
 

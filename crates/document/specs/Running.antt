@@ -6,12 +6,12 @@ use lib.Bits.{bitXor, bitAnd}
 use lib.Dec.{ltb, leb}
 use lib.ListN.{length, getD, drop}
 use Rattle.document.specs.Routine.{Routine, size, wire, randsBefore, pubsBefore, wellFormed, whole-routine}
-use Rattle.document.specs.declared.Kind.{Kind}
-use Rattle.document.specs.declared.Kind.the-variants.{Share, Rand, Pub, Xor, And, Not}
-use Rattle.document.specs.declared.Refusal.{Refusal}
-use Rattle.document.specs.declared.Refusal.the-variants as No
-use Rattle.document.specs.declared.Outcome.the-variants.{Done, Refused}
-use Rattle.document.specs.declared.Ran.{Ran}
+use Rattle.data.specs.declared.Kind.{Kind}
+use Rattle.data.specs.declared.Kind.the-variants.{Share, Rand, Pub, Xor, And, Not}
+use Rattle.data.specs.declared.Refusal.{Refusal}
+use Rattle.data.specs.declared.Refusal.the-variants as No
+use Rattle.data.specs.declared.Outcome.the-variants.{Done, Refused}
+use Rattle.data.specs.declared.Ran.{Ran}
 
 -- 2.9: a kind of value is the numbers below `many`, and what `xor`, `and` and `not` do to them
 pub record Value : Type 0 where

@@ -1,12 +1,13 @@
 -- Starts, and how many of them show a pattern (section 9 of docs/SPECIFICATION.md).
-use mathlib.Core.Bool.{Bool}
+use mathlib.Core.Path.{_≡_}
+use mathlib.Core.Bool.{Bool, true}
 use mathlib.Core.List.{List, [], _∷_, map, flatMap}
 use Prim.Native.Nat.{ℕ, zero, suc, _+_, _*_, _<_}
-use lib.Dec.{eqb}
+use lib.Dec.{eqb, ltb}
 use lib.ListN.{length, getD}
-use Rattle.document.specs.Basics.{all, same, keep, upTo}
+use Rattle.data.specs.Basics.{all, each, same, keep, upTo}
 use Rattle.document.specs.Routine.{Routine, size, randsBefore}
-use Rattle.document.specs.Running.{Value, running}
+use Rattle.document.specs.Running.{Value, running, whole-running}
 
 -- every list of m values
 unfoldable pub allWords : Value → ℕ → List (List ℕ)
@@ -44,3 +45,21 @@ observed K R publics ps s = map (λ w. getD (running K R (s .shares) (s .randoms
 -- 9.5, 9.6: from how many starts of these secrets the wires show just this pattern
 unfoldable pub patternCount : Value → Routine → List ℕ → List ℕ → List ℕ → List ℕ → ℕ
 patternCount K R publics ps pattern secrets = length (keep (λ s. same (observed K R publics ps s) pattern) (starts K R secrets))
+
+-- the definitions above, to unfold at once where a proof computes
+unfoldable pub whole-starts : Unit {0}
+unfolding whole-running flatMap allWords xorOf splits starts observed patternCount
+whole-starts = tt
+
+-- ---- words of the statements
+
+-- 9.2, 9.3: s is a start of this choice of the secrets
+pub record IsStart (K : Value) (R : Routine) (secrets : List ℕ) (s : Start) : Type 0 where
+  -- a value for every input share
+  pub shares-many : length (s .shares) ≡ R .S * R .D
+  pub shares-values : each (λ v. ltb v (K .many)) (s .shares) ≡ true
+  -- a value for every random
+  pub randoms-many : length (s .randoms) ≡ randsBefore R (size R)
+  pub randoms-values : each (λ v. ltb v (K .many)) (s .randoms) ≡ true
+  -- the D shares of each secret xor to it
+  pub split : (i : ℕ) → i < R .S → xorOf K (R .D) (λ j. getD (s .shares) (i * R .D + j) 0) ≡ getD secrets i 0

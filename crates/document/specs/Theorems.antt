@@ -1,33 +1,45 @@
 -- What is proved of the definitions (docs/SPECIFICATION.md); each theorem is proved by citing the laws.
-use mathlib.Core.Path.{_≡_, refl, sym, ap, _∙_}
-use mathlib.Core.Bool.{Bool, true, false, cond}
-use mathlib.Core.Logic.{_⊎_, inl, inr, _↔_}
-use mathlib.Core.List.{List, [], _∷_}
-use Prim.Native.Nat.{ℕ, _+_, _*_, _≤_, _<_}
+use mathlib.Core.Path.{_≡_, refl, sym, ap, _∙_, subst}
+use mathlib.Core.Bool.{true, false}
+use mathlib.Core.Logic.{_↔_}
+use mathlib.Core.List.{List}
+use Prim.Native.Nat.{ℕ, _+_, _*_, _-_, _^_, _≤_, _<_}
 use native.Mathlib.Omega.{arith}
-use lib.Dec.{ltb, leb}
-use lib.ListN.{length, getD}
-use Rattle.document.specs.Basics.{Marks, at, elem}
-use Rattle.document.specs.Routine.{Routine, size, wellFormed}
+use lib.ListN.{length, take}
+use Rattle.data.specs.Basics.{at, elem, Among, Once}
+use Rattle.document.specs.Routine.{Routine, size, randsBefore, wellFormed, routineOf, recordsFit}
+use Rattle.document.specs.Reading.{reading, routineIn}
 use Rattle.document.specs.Running.{bit}
-use Rattle.document.specs.ProbeSets.{setOf, WireSet}
-use Rattle.document.specs.Padding.{probed, firstLeaves, live, canPad, steps, lastLeaves, liveAtEnd, neededOf, Allowed, Stuck}
-use Rattle.document.specs.Judgements.{Judgement, plain, isOpen, setsInOrder, setsJudged, opened, orderFits, judgedNot, judged}
-use Rattle.document.specs.Judgements.{Among, Ordered, NoneOpen, FirstOpen}
-use Rattle.document.specs.Starts.{patternCount, Small}
+use Rattle.data.specs.ProbeSets.{setOf, WireSet}
+use Rattle.document.specs.Padding.{probed, firstLeaves, live, steps, leavesAfter, lastLeaves, liveAtEnd, Allowed, Stuck, RuleRun}
+use Rattle.document.specs.Judgements.{Judgement, plain, judgementOf, isOpen, setsInOrder, setsJudged, opened, orderFits, judgedNot, judged}
+use Rattle.document.specs.Judgements.{Ordered, NoneOpen, FirstOpen}
+use Rattle.document.specs.Starts.{Start, starts, patternCount, Small, IsStart}
+use Rattle.document.specs.Worth.{KeepsSecrets, PassesPlain}
+use Rattle.document.specs.Lent.{lentJudged}
+use Rattle.document.specs.Desk.{deskPrints, passLine, HasLine}
 use Rattle.document.specs.Examples.{Hold, claims, cases, shortcuts, no-shortcut}
-use Rattle.document.specs.Laws.Tests.{and-i, true-leb, true-ltb, cond-true, cond-false, Mem, elem→, elem←}
+use Rattle.data.specs.Laws.Tests.{and-i, true-leb, true-ltb, cond-true, cond-false, elem→, elem←}
 use Rattle.document.specs.Laws.Values.{bit-lawful}
 use Rattle.document.specs.Laws.Sound.{sound}
 use Rattle.document.specs.Laws.Needed.{asc-low, watch-same, needed-mono, lower}
-use Rattle.document.specs.Laws.Orders.{own-allowed, own-stuck, step-count}
+use Rattle.document.specs.Laws.Steps.{run-allowed, run-ends}
+use Rattle.document.specs.Laws.Orders.{one-run, step-count}
 use Rattle.document.specs.Laws.Orders as Orders
 use Rattle.document.specs.Laws.Sets.{asc, wire-set, sets→, sets←, sets-ordered}
-use Rattle.document.specs.Laws.Judging.{pass-exactly, open-has, open-is, passed-has, judged-is, order-below, plain-within}
+use Rattle.document.specs.Laws.Judging.{pass-exactly, open-has, open-is, passed-has, judged-is, order-below, plain-within, lent-passed}
+use Rattle.document.specs.Laws.Starts as Starts
 use Rattle.document.specs.Laws.Secrecy as Secrecy
-use Rattle.document.specs.declared.Refusal.the-variants as No
-use Rattle.document.specs.declared.Verdict.the-variants as Says
-use Rattle.document.specs.declared.Judged.{Judged}
+use Rattle.document.specs.Laws.Printed.{cut-same}
+use Rattle.document.specs.Laws.Worth.{printed-pass}
+use Rattle.data.specs.declared.Refusal.the-variants as No
+use Rattle.data.specs.declared.Outcome.the-variants.{Done}
+use Rattle.data.specs.declared.Verdict.the-variants as Says
+use Rattle.data.specs.declared.Step.{Step}
+use Rattle.data.specs.declared.Which.the-variants as Ask
+use Rattle.data.specs.declared.Wire.{Wire}
+use Rattle.data.specs.declared.Shape.{Shape}
+use Rattle.data.specs.declared.Judged.{Judged}
 
 -- ---- the examples
 
@@ -42,19 +54,30 @@ no-shortcuts = no-shortcut
 -- ---- demand 2: the padding rule
 
 module _ (R : Routine) (good : wellFormed R ≡ true) where
-  -- 3.22: the rule's own steps are allowed, no step is left at their end, and there are at most n − S·D of them
+  -- 3.22: a list of steps is the run of the rule exactly when it is the one that is computed
+  pub steps-are-run : (ps : List ℕ) (ss : List Step) → RuleRun R (probed ps) (firstLeaves R) ss ↔ (ss ≡ steps R ps)
+  steps-are-run ps ss =
+      let own = Orders.steps-run R (sound R good) ps in
+      (λ run. one-run R (probed ps) (firstLeaves R) ss (steps R ps) run own, λ e. subst (RuleRun R (probed ps) (firstLeaves R)) (sym e) own)
+
+  -- 3.22: so its steps are allowed, no step is left at their end, and there are at most n − S·D of them
   pub padding-ends : (ps : List ℕ)
-      → Allowed R (probed ps) (firstLeaves R) (lastLeaves R ps)
+      → Allowed R (probed ps) (firstLeaves R) (steps R ps)
       × Stuck R (probed ps) (lastLeaves R ps)
       × (R .S * R .D + length (steps R ps) ≤ size R)
-  padding-ends ps = (own-allowed R (sound R good) ps, own-stuck R (sound R good) ps, step-count R (sound R good) ps)
+  unfolding lastLeaves
+  padding-ends ps =
+      let own = Orders.steps-run R (sound R good) ps in (
+        run-allowed R (probed ps) (firstLeaves R) (steps R ps) own,
+        run-ends R (probed ps) (firstLeaves R) (steps R ps) own,
+        step-count R (sound R good) ps,
+      )
 
-  -- 3.24: allowed steps in any order, made until none is left, end with the same live wires
-  pub any-order : (ps : List ℕ) {leaf leaf′ : Marks}
-      → Allowed R (probed ps) (firstLeaves R) leaf → Stuck R (probed ps) leaf
-      → Allowed R (probed ps) (firstLeaves R) leaf′ → Stuck R (probed ps) leaf′
-      → (v : ℕ) → at (live R (probed ps) leaf) v ≡ at (live R (probed ps) leaf′) v
-  any-order ps a s a′ s′ v = Orders.any-order R (sound R good) ps a s a′ s′ v
+  -- 3.24: allowed steps in any order, made until none is left, end with the live wires of the rule
+  pub any-order : (ps : List ℕ) (ss : List Step) → Allowed R (probed ps) (firstLeaves R) ss → Stuck R (probed ps) (leavesAfter ss (firstLeaves R))
+      → (v : ℕ) → at (live R (probed ps) (leavesAfter ss (firstLeaves R))) v ≡ at (liveAtEnd R ps) v
+  unfolding liveAtEnd lastLeaves
+  any-order ps ss a s v = Orders.any-order R (sound R good) ps ss (steps R ps) a s (padding-ends ps .0) (padding-ends ps .1) v
 
   -- 3.25: probing more wires never takes a wire from those live at the end, and so no needed share
   pub more-probes : (ps qs : List ℕ) → WireSet (size R) ps → ((v : ℕ) → elem v ps ≡ true → elem v qs ≡ true)
@@ -103,6 +126,21 @@ pub first-opens : (J : Judgement) (R : Routine) (t c : ℕ) (ps : List ℕ) → 
     → FirstOpen (isOpen J R t) (setsJudged J R t) ps c → judged J R t ≡ opened c ps
 first-opens J R t c ps good order f = judged-is J R t good order ∙ open-is J R t ps c f
 
+-- ---- the starts
+
+-- 9.2, 9.3: the list has every start of a choice of the secrets, and nothing else
+pub starts-are : (R : Routine) (secrets : List ℕ) (s : Start) → Among s (starts bit R secrets) ↔ IsStart bit R secrets s
+starts-are R secrets s = Starts.starts-are bit R secrets s
+
+-- 9.3, 9.5: it has each of them once
+pub starts-differ : (R : Routine) (secrets : List ℕ) → Once (starts bit R secrets)
+starts-differ R secrets = Starts.starts-differ bit R secrets
+
+-- 9.3: every choice of the secrets has 2^(S·(D − 1)) starts for each way to draw the randoms
+pub starts-many : (R : Routine) → wellFormed R ≡ true → (secrets : List ℕ) → Small 2 secrets
+    → length (starts bit R secrets) ≡ 2 ^ (R .S * (R .D - 1) + randsBefore R (size R))
+starts-many R good secrets h = Starts.starts-many bit bit-lawful R (omega (arith, sound R good .some-shares)) secrets h
+
 -- ---- demand 3
 
 -- 9.13: a routine that passes the plain judgement of order t passes that of each lower order, down to 1
@@ -130,3 +168,30 @@ shows-nothing R t c e ps s few publics sy pattern secrets secrets′ h h′ =
     let w = plain-within R t .1 (pass-exactly plain R t c .0 (p .says) .0) in
     Secrecy.same-counts bit bit-lawful R (sound R (p .good)) (λ qs. qs) (watch-same R) t (o .0) (o .2) w
     ps (asc (size R) ps s) few publics sy pattern secrets secrets′ h h′
+
+-- 9.25: both halves of it
+pub pass-keeps : (R : Routine) (t c : ℕ) → judged plain R t .verdict ≡ Says.Pass c → KeepsSecrets R t
+pass-keeps R t c e = record { below = passes-below R t c e; hides = shows-nothing R t c e }
+
+-- 9.25: with the order and the count of a pass
+pub pass-worth : (R : Routine) (t c : ℕ) → judged plain R t .verdict ≡ Says.Pass c → PassesPlain R t c
+pass-worth R t c e =
+    let p = passed-has plain R t c e in
+    record { allowed = p .order; passes = e; counts = pass-exactly plain R t c .0 (p .says) .1; keeps = pass-keeps R t c e }
+
+-- 6.4, 9.25: of what the judging call answers, by value or over a lent list
+pub lent-pass-keeps : (σ : Shape) (ws : List Wire) (t c : ℕ) → lentJudged (judgementOf Ask.Plain) σ ws t .verdict ≡ Says.Pass c
+    → (recordsFit σ ws ≡ true) × PassesPlain (routineOf σ ws) t c
+unfolding recordsFit
+lent-pass-keeps σ ws t c e =
+    let p = lent-passed plain σ ws t c e in
+    (and-i _ _ (p .0) (passed-has plain (routineOf σ ws) t c (p .1) .good), pass-worth (routineOf σ ws) t c (p .1))
+
+-- 9.26: of what the desk prints: a line `plain t pass c` is printed only of such a routine
+pub printed-pass-keeps : (text : List ℕ) (t c : ℕ) → HasLine (passLine t c) (deskPrints text)
+    → (reading text .outcome ≡ Done) × PassesPlain (routineIn (reading text .listing)) t c
+printed-pass-keeps text t c h = let p = printed-pass t c text h in (p .0, pass-worth (routineIn (reading text .listing)) t c (p .1))
+
+-- 8.16: a text cut off behind 4,097 bytes has the same lines as the whole
+pub cut-prints-same : (text : List ℕ) → deskPrints (take 4097 text) ≡ deskPrints text
+cut-prints-same = cut-same

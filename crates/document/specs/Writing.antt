@@ -1,19 +1,19 @@
 -- The text of a routine, and writing it into a lent buffer (1.47, 1.48 and section 6 of docs/SPECIFICATION.md).
-use mathlib.Core.Bool.{Bool, true, false, cond}
+use mathlib.Core.Bool.{cond}
 use mathlib.Core.List.{List, [], _∷_, _++_}
 use Prim.Native.Nat.{ℕ, zero, suc, _-_, _*_}
 use lib.Dec.{leb}
 use lib.ListN.{length, drop}
 use Rattle.document.specs.Routine.{Routine, size, wire, wellFormed, whole-routine}
 use Rattle.document.specs.Lines.{textOfLines}
-use Rattle.document.specs.declared.Kind.{Kind}
-use Rattle.document.specs.declared.Kind.the-variants as K
-use Rattle.document.specs.declared.Line.{Line}
-use Rattle.document.specs.declared.Line.the-variants as L
-use Rattle.document.specs.declared.Refusal.{Refusal}
-use Rattle.document.specs.declared.Refusal.the-variants as No
-use Rattle.document.specs.declared.Outcome.the-variants.{Done, Refused}
-use Rattle.document.specs.declared.Written.{Written}
+use Rattle.data.specs.declared.Kind.{Kind}
+use Rattle.data.specs.declared.Kind.the-variants as K
+use Rattle.data.specs.declared.Line.{Line}
+use Rattle.data.specs.declared.Line.the-variants as L
+use Rattle.data.specs.declared.Refusal.{Refusal}
+use Rattle.data.specs.declared.Refusal.the-variants as No
+use Rattle.data.specs.declared.Outcome.the-variants.{Done, Refused}
+use Rattle.data.specs.declared.Written.{Written}
 
 -- 1.16, 1.48: the line that makes wire w, its operands in the order a, b; a share has none
 unfoldable pub lineOfKind : ℕ → Kind → ℕ → ℕ → Line

@@ -9,13 +9,13 @@ use lib.ListN.{length, getD, take, drop, drop-of-length-le, length-drop}
 use lib.Seq.{take-all}
 use lib.Dec.{leb, eqb}
 use borrow.Author.Tests.{leb-true, eq-eqb, ne-eqb}
-use Rattle.document.specs.Basics.{same}
-use Rattle.document.specs.Laws.Tests.{and-l, and-r}
+use Rattle.data.specs.Basics.{same}
+use Rattle.data.specs.Laws.Tests.{and-l, and-r}
 use Rattle.document.specs.Lines.{cut, front, number, digit, lead, wordOf, spelled, digitZero, digitOne, digitNine}
-use Rattle.document.specs.declared.Number.{Number}
-use Rattle.document.specs.declared.Number.the-variants.{Bad}
-use Rattle.document.specs.declared.Word.{Word}
-use Rattle.document.specs.declared.Word.the-variants.{Other, Routine, Rand, Pub, Xor, And, Not, Out}
+use Rattle.data.specs.declared.Number.{Number}
+use Rattle.data.specs.declared.Number.the-variants.{Bad}
+use Rattle.data.specs.declared.Word.{Word}
+use Rattle.data.specs.declared.Word.the-variants.{Other, Routine, Rand, Pub, Xor, And, Not, Out}
 use Rattle.fields.specs.Parts.{Parted}
 
 -- ---- tests

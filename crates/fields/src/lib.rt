@@ -1,11 +1,11 @@
 // The fields of a line of a routine text: the parts between separators, and a field as a number or a word.
-use document::Number;
-use document::Word;
+use data::Number;
+use data::Word;
 ghost use mathlib.Core.Path.{_≡_};
 ghost use mathlib.Core.List.{_∷_, []};
 ghost use Prim.Native.Nat.{_≤_};
 ghost use lib.ListN.{length, take, drop};
-ghost use Rattle.document.specs.Basics.{same};
+ghost use Rattle.data.specs.Basics.{same};
 ghost use Rattle.document.specs.Lines.{number, digit, lead, wordOf};
 ghost use Rattle.fields.specs.Parts.{Parted};
 

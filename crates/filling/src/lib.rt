@@ -1,11 +1,11 @@
 // What a read into a lent list stores and answers, from its text and the list's length: functions that have no list.
-use document::Filled;
-use document::Listing;
-use document::Outcome;
-use document::Read;
-use document::Refusal;
-use document::Shape;
-use document::Wire;
+use data::Filled;
+use data::Listing;
+use data::Outcome;
+use data::Read;
+use data::Refusal;
+use data::Shape;
+use data::Wire;
 ghost use mathlib.Core.Path.{_≡_};
 ghost use Rattle.document.specs.Lent.{readFor, filled};
 
@@ -16,7 +16,7 @@ pub fn read_for(text: &[u8], len: usize) -> Read
     if len < 128 {
         let outcome = Outcome::Refused(Refusal::Lent);
         let shape = Shape { s: 0, d: 0, n: 0 };
-        let wires = document::blank_wires();
+        let wires = listing::blank_wires();
         let listing = Listing { shape, wires };
         return Read {
             outcome,

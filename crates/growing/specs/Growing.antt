@@ -6,17 +6,17 @@ use mathlib.Core.List.{List, [], _∷_, _++_}
 use Prim.Native.Nat.{ℕ, _+_, _≤_, _<_}
 use lib.Bits.{bitOr}
 use lib.ListN.{length, getD}
-use Rattle.document.specs.Basics.{keep}
+use Rattle.data.specs.Basics.{keep}
 use Rattle.document.specs.Routine.{Routine, size, recordsFit}
-use Rattle.document.specs.ProbeSets.{held, emptySet, setOf, Asc}
+use Rattle.data.specs.ProbeSets.{held, emptySet, setOf, Asc}
 use Rattle.document.specs.Judgements.{isOpen, judgementOf}
-use Rattle.document.specs.declared.ProbeSet.{ProbeSet}
-use Rattle.document.specs.declared.Wire.{Wire}
+use Rattle.data.specs.declared.ProbeSet.{ProbeSet}
+use Rattle.data.specs.declared.Wire.{Wire}
 use Rattle.records.specs.Records.{recordAt}
 use Rattle.cones.specs.Bits.{minus}
 use Rattle.cones.specs.Seen.{Seen, seeAll, unseen}
-use Rattle.document.specs.declared.Which.{Which}
-use Rattle.document.specs.declared.Which.the-variants.{Plain, Strong}
+use Rattle.data.specs.declared.Which.{Which}
+use Rattle.data.specs.declared.Which.the-variants.{Plain, Strong}
 use Rattle.growing.specs.declared.Question.{Question}
 use Rattle.growing.specs.declared.Grown.{Grown}
 use Rattle.growing.specs.declared.Found.{Found}

@@ -1,11 +1,11 @@
 // One set of a judgement: how it is grown by a wire, and whether it is open.
-use document::Listing;
-use document::ProbeSet;
-use document::Which;
+use data::Listing;
+use data::ProbeSet;
+use data::Which;
 ghost use mathlib.Core.Path.{_≡_};
 ghost use mathlib.Core.List.{_∷_, [], _++_};
 ghost use Prim.Native.Nat.{_+_, _^_, _≤_, _<_};
-ghost use Rattle.document.specs.ProbeSets.{held, setOf};
+ghost use Rattle.data.specs.ProbeSets.{held, setOf};
 ghost use Rattle.document.specs.Judgements.{judgementOf};
 ghost use Rattle.growing.specs.Growing.{none, opensIn, nothingGrown, ownWith, grownBy, Skipped, judgedSet, Holding, innerOf, boundOf, Asked};
 

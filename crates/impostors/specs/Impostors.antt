@@ -2,82 +2,76 @@
 -- would answer is a function f, and its contract asks that f answers each input so: the theorems say of each impostor that it does not.
 -- They speak of the calls over a lent list, of lists of any length; the calls on values cite the same definitions.
 use mathlib.Core.Path.{_≡_, sym, ap, _∙_}
-use mathlib.Core.Bool.{Bool, false, true≢false}
+use mathlib.Core.Bool.{Bool, true, false, true≢false}
 use mathlib.Core.List.{List, [], _∷_}
-use Prim.Native.Nat.{ℕ}
+use Prim.Native.Nat.{ℕ, _≤_}
 use native.Mathlib.Omega.{arith}
+use lib.Dec.{ltb}
 use lib.ListN.{getD, replicate}
 use Rattle.document.specs.Reading.{blanks}
-use Rattle.document.specs.ProbeSets.{setOf}
-use Rattle.document.specs.Judgements.{Judgement, plain, strong, stepList}
+use Rattle.data.specs.Refusals.{outcomeNumber}
+use Rattle.data.specs.ProbeSets.{setOf}
+use Rattle.document.specs.Judgements.{Judgement, plain, strong, told, stepList}
 use Rattle.document.specs.Lent.{lentRead, lentReadInto, lentWritten, lentWrittenInto, lentRan, lentRanInto, lentNeeding, lentPadding, lentJudged}
-use Rattle.document.specs.declared.Judged.{Judged}
-use Rattle.document.specs.declared.Needed.{Needed}
-use Rattle.document.specs.declared.Outcome.{Outcome}
-use Rattle.document.specs.declared.Outcome.the-variants.{Done, Refused}
-use Rattle.document.specs.declared.Padded.{Padded}
-use Rattle.document.specs.declared.ProbeSet.{ProbeSet}
-use Rattle.document.specs.declared.Ran.{Ran}
-use Rattle.document.specs.declared.Verdict.{Verdict}
-use Rattle.document.specs.declared.Verdict.the-variants as Says
-use Rattle.document.specs.declared.Wire.{Wire}
-use Rattle.document.specs.declared.Written.{Written}
+use Rattle.data.specs.declared.Judged.{Judged}
+use Rattle.data.specs.declared.Needed.{Needed}
+use Rattle.data.specs.declared.Outcome.{Outcome}
+use Rattle.data.specs.declared.Outcome.the-variants.{Done}
+use Rattle.data.specs.declared.Padded.{Padded}
+use Rattle.data.specs.declared.ProbeSet.{ProbeSet}
+use Rattle.data.specs.declared.Ran.{Ran}
+use Rattle.data.specs.declared.Wire.{Wire}
+use Rattle.data.specs.declared.Written.{Written}
 use Rattle.document.specs.Examples.{exampleA, exampleB}
-use Rattle.document.specs.declared.Filled.{Filled}
-use Rattle.document.specs.declared.Shape.{Shape}
+use Rattle.data.specs.declared.Filled.{Filled}
+use Rattle.data.specs.declared.Shape.{Shape}
 use Rattle.reader.specs.Laws.TextExamples.{bytes}
-use Rattle.impostors.specs.Laws.Worked.{sized, listA, listB, sum, pair, bare, textBare, sharesAfter}
-use Rattle.impostors.specs.Laws.Worked.{worked-plain, worked-strong, worked-needs, worked-pads, too-few-steps, worked-read, worked-write, worked-run}
+use Rattle.impostors.specs.Laws.Worked.{sized, listA, listB, sum, pair, bare, textBare, sharesAfter, opensAfter}
+use Rattle.impostors.specs.Laws.Worked.{worked-plain, worked-strong, worked-needs, worked-pads, too-few-steps, too-few-open}
+use Rattle.impostors.specs.Laws.Worked.{worked-read, worked-write, worked-run}
 
--- two different numbers are not one
-apart : {k : ℕ} → 0 ≡ k → 1 ≡ k → ⊥
-apart p q = omega (arith, p, q)
+-- no is not yes
+apart : {b : Bool} → false ≡ b → true ≡ b → ⊥
+apart p q = true≢false (q ∙ sym p)
 
 -- ---- the judgements
-
--- 0: pass, 1: open, 2: refused
-abbrev pub sort : Verdict → ℕ
-sort (Says.Pass k) = 0
-sort (Says.Open k) = 1
-sort (Says.Refused f) = 2
-
-abbrev count : Verdict → ℕ
-count (Says.Pass k) = k
-count (Says.Open k) = k
-count (Says.Refused f) = 0
 
 -- f answers as the contract of a judging call asks
 abbrev pub JudgesAll : Judgement → (Shape → List Wire → ℕ → Judged) → Type 0
 JudgesAll J f = (σ : Shape) (list : List Wire) (t : ℕ) → f σ list t ≡ lentJudged J σ list t
 
 module _ (f : Shape → List Wire → ℕ → Judged) where
-  -- it refuses everything, or always says pass, or always open
-  abbrev pub OneSort : ℕ → Type 0
-  OneSort k = (σ : Shape) (list : List Wire) (t : ℕ) → sort (f σ list t .verdict) ≡ k
+  -- it refuses everything or always says open, and so passes nothing; or it always says pass
+  abbrev pub PassesOnly : Bool → Type 0
+  PassesOnly b = (σ : Shape) (list : List Wire) (t : ℕ) → told (f σ list t .verdict) .passes ≡ b
 
-  pub plain-not-one : JudgesAll plain f → (k : ℕ) → OneSort k → ⊥
-  plain-not-one meets k one = apart
-      (sym (ap (λ (j : Judged). sort (j .verdict)) (meets (sized exampleA) listA 1 ∙ worked-plain .0)) ∙ one (sized exampleA) listA 1)
-      (sym (ap (λ (j : Judged). sort (j .verdict)) (meets (sized exampleB) listB 1 ∙ worked-plain .1)) ∙ one (sized exampleB) listB 1)
+  pub plain-not-one : JudgesAll plain f → (b : Bool) → PassesOnly b → ⊥
+  plain-not-one meets b one = apart
+      (sym (ap (λ (j : Judged). told (j .verdict) .passes) (meets (sized exampleB) listB 1 ∙ worked-plain .1)) ∙ one (sized exampleB) listB 1)
+      (sym (ap (λ (j : Judged). told (j .verdict) .passes) (meets (sized exampleA) listA 1 ∙ worked-plain .0)) ∙ one (sized exampleA) listA 1)
 
-  pub strong-not-one : JudgesAll strong f → (k : ℕ) → OneSort k → ⊥
-  strong-not-one meets k one = apart
-      (sym (ap (λ (j : Judged). sort (j .verdict)) (meets (sized exampleA) listA 2 ∙ worked-strong .0)) ∙ one (sized exampleA) listA 2)
-      (sym (ap (λ (j : Judged). sort (j .verdict)) (meets (sized pair) (pair .wires) 2 ∙ worked-strong .1)) ∙ one (sized pair) (pair .wires) 2)
+  pub strong-not-one : JudgesAll strong f → (b : Bool) → PassesOnly b → ⊥
+  strong-not-one meets b one = apart
+      (sym (ap (λ (j : Judged). told (j .verdict) .passes) (meets (sized pair) (pair .wires) 2 ∙ worked-strong .1)) ∙ one (sized pair) (pair .wires) 2)
+      (sym (ap (λ (j : Judged). told (j .verdict) .passes) (meets (sized exampleA) listA 2 ∙ worked-strong .0)) ∙ one (sized exampleA) listA 2)
+
+  -- it never says open
+  pub plain-not-closed : JudgesAll plain f → ((σ : Shape) (list : List Wire) (t : ℕ) → told (f σ list t .verdict) .opens ≡ false) → ⊥
+  plain-not-closed meets never =
+      apart (sym (never (sized exampleB) listB 1)) (sym (ap (λ (j : Judged). told (j .verdict) .opens) (meets (sized exampleB) listB 1 ∙ worked-plain .1)))
 
   -- it invents its count
-  pub plain-count : JudgesAll plain f → count (f (sized exampleA) listA 1 .verdict) ≡ 9
-  plain-count meets = ap (λ (j : Judged). count (j .verdict)) (meets (sized exampleA) listA 1 ∙ worked-plain .0)
+  pub plain-count : JudgesAll plain f → told (f (sized exampleA) listA 1 .verdict) .count ≡ 9
+  plain-count meets = ap (λ (j : Judged). told (j .verdict) .count) (meets (sized exampleA) listA 1 ∙ worked-plain .0)
 
-  pub strong-count : JudgesAll strong f → count (f (sized pair) (pair .wires) 2 .verdict) ≡ 4
-  strong-count meets = ap (λ (j : Judged). count (j .verdict)) (meets (sized pair) (pair .wires) 2 ∙ worked-strong .1)
+  pub strong-count : JudgesAll strong f → told (f (sized pair) (pair .wires) 2 .verdict) .count ≡ 4
+  strong-count meets = ap (λ (j : Judged). told (j .verdict) .count) (meets (sized pair) (pair .wires) 2 ∙ worked-strong .1)
 
 -- ---- one probe set
 
--- 0: done, 1: refused
-abbrev pub done : Outcome → ℕ
-done Done = 0
-done (Refused f) = 1
+-- the call is refused
+abbrev pub refuses : Outcome → Bool
+refuses o = ltb 0 (outcomeNumber o)
 
 abbrev pub NeedsAll : (Shape → List Wire → ℕ → ProbeSet → Needed) → Type 0
 NeedsAll f = (σ : Shape) (list : List Wire) (t : ℕ) (set : ProbeSet) → f σ list t set ≡ lentNeeding σ list t set
@@ -87,10 +81,10 @@ module _ (f : Shape → List Wire → ℕ → ProbeSet → Needed) (meets : Need
   none = meets (sized sum) (sum .wires) 1 (setOf (10 ∷ [])) ∙ worked-needs .0
 
   -- it refuses everything, or nothing
-  pub needs-not-one : (k : ℕ) → ((σ : Shape) (list : List Wire) (t : ℕ) (set : ProbeSet) → done (f σ list t set .outcome) ≡ k) → ⊥
-  needs-not-one k one = apart
-      (sym (ap (λ (a : Needed). done (a .outcome)) none) ∙ one (sized sum) (sum .wires) 1 (setOf (10 ∷ [])))
-      (sym (ap (λ (a : Needed). done (a .outcome)) (meets (sized pair) (pair .wires) 0 (setOf (3 ∷ [])) ∙ worked-needs .2))
+  pub needs-not-one : (b : Bool) → ((σ : Shape) (list : List Wire) (t : ℕ) (set : ProbeSet) → refuses (f σ list t set .outcome) ≡ b) → ⊥
+  needs-not-one b one = apart
+      (sym (ap (λ (a : Needed). refuses (a .outcome)) none) ∙ one (sized sum) (sum .wires) 1 (setOf (10 ∷ [])))
+      (sym (ap (λ (a : Needed). refuses (a .outcome)) (meets (sized pair) (pair .wires) 0 (setOf (3 ∷ [])) ∙ worked-needs .2))
       ∙ one (sized pair) (pair .wires) 0 (setOf (3 ∷ [])))
 
   -- it always says open, or never
@@ -112,12 +106,12 @@ PadsAll f = (σ : Shape) (list : List Wire) (t : ℕ) (set : ProbeSet) → f σ 
 
 module _ (f : Shape → List Wire → ℕ → ProbeSet → Padded) (meets : PadsAll f) where
   -- it refuses everything, or nothing
-  pub pads-not-one : (k : ℕ) → ((σ : Shape) (list : List Wire) (t : ℕ) (set : ProbeSet) → done (f σ list t set .outcome) ≡ k) → ⊥
+  pub pads-not-one : (b : Bool) → ((σ : Shape) (list : List Wire) (t : ℕ) (set : ProbeSet) → refuses (f σ list t set .outcome) ≡ b) → ⊥
   unfolding stepList
-  pads-not-one k one = apart
-      (sym (ap (λ (a : Padded). done (a .outcome)) (meets (sized sum) (sum .wires) 1 (setOf (10 ∷ [])) ∙ worked-pads .0))
+  pads-not-one b one = apart
+      (sym (ap (λ (a : Padded). refuses (a .outcome)) (meets (sized sum) (sum .wires) 1 (setOf (10 ∷ [])) ∙ worked-pads .0))
       ∙ one (sized sum) (sum .wires) 1 (setOf (10 ∷ [])))
-      (sym (ap (λ (a : Padded). done (a .outcome)) (meets (sized pair) (pair .wires) 0 (setOf (3 ∷ [])) ∙ worked-pads .2))
+      (sym (ap (λ (a : Padded). refuses (a .outcome)) (meets (sized pair) (pair .wires) 0 (setOf (3 ∷ [])) ∙ worked-pads .2))
       ∙ one (sized pair) (pair .wires) 0 (setOf (3 ∷ [])))
 
   -- it always says open, or never
@@ -129,10 +123,16 @@ module _ (f : Shape → List Wire → ℕ → ProbeSet → Padded) (meets : Pads
       ∙ sym (always (sized sum) (sum .wires) 1 (setOf (10 ∷ [])))
       ∙ ap (λ (a : Padded). a .undecided) (meets (sized sum) (sum .wires) 1 (setOf (10 ∷ [])) ∙ worked-pads .0))
 
-  -- it makes no padding step, or the first alone: there are five
+  -- it makes no padding step, or the first alone, and lists no more: there are five
   pub pads-steps : f (sized sum) (sum .wires) 1 (setOf (10 ∷ [])) .len ≡ 5
   unfolding stepList
   pads-steps = ap (λ (a : Padded). a .len) (meets (sized sum) (sum .wires) 1 (setOf (10 ∷ [])) ∙ worked-pads .0)
+
+  -- it makes no step, or the first alone, and lists all five: the set would be open then, and is not
+  pub pads-only-listed : (k : ℕ) → k ≤ 1 → f (sized sum) (sum .wires) 1 (setOf (10 ∷ [])) .undecided ≡ opensAfter k sum 1 (10 ∷ []) → ⊥
+  unfolding stepList
+  pads-only-listed k few e =
+      apart (sym (ap (λ (a : Padded). a .undecided) (meets (sized sum) (sum .wires) 1 (setOf (10 ∷ [])) ∙ worked-pads .0)) ∙ e) (sym (too-few-open k few))
 
 -- ---- reading, writing and running
 
@@ -141,10 +141,10 @@ ReadsAll f after = (text : List ℕ) (list : List Wire) → (f text list ≡ len
 
 module _ (f : List ℕ → List Wire → Filled) (after : List ℕ → List Wire → List Wire) (meets : ReadsAll f after) where
   -- it refuses everything, or nothing
-  pub read-not-one : (k : ℕ) → ((text : List ℕ) (list : List Wire) → done (f text list .outcome) ≡ k) → ⊥
-  read-not-one k one = apart
-      (sym (ap (λ (a : Filled). done (a .outcome)) (meets textBare blanks .0 ∙ worked-read .0)) ∙ one textBare blanks)
-      (sym (ap (λ (a : Filled). done (a .outcome)) (meets [] blanks .0 ∙ worked-read .2)) ∙ one [] blanks)
+  pub read-not-one : (b : Bool) → ((text : List ℕ) (list : List Wire) → refuses (f text list .outcome) ≡ b) → ⊥
+  read-not-one b one = apart
+      (sym (ap (λ (a : Filled). refuses (a .outcome)) (meets textBare blanks .0 ∙ worked-read .0)) ∙ one textBare blanks)
+      (sym (ap (λ (a : Filled). refuses (a .outcome)) (meets [] blanks .0 ∙ worked-read .2)) ∙ one [] blanks)
 
   -- it invents n
   pub read-count : f textBare blanks .shape .n ≡ 2
@@ -155,11 +155,11 @@ WritesAll f after = (σ : Shape) (list : List Wire) (buf : List ℕ) → (f σ l
 
 module _ (f : Shape → List Wire → List ℕ → Written) (after : Shape → List Wire → List ℕ → List ℕ) (meets : WritesAll f after) where
   -- it refuses everything, or nothing
-  pub write-not-one : (k : ℕ) → ((σ : Shape) (list : List Wire) (buf : List ℕ) → done (f σ list buf .outcome) ≡ k) → ⊥
-  write-not-one k one = apart
-      (sym (ap (λ (a : Written). done (a .outcome)) (meets (sized bare) (bare .wires) (replicate 12 0) .0 ∙ worked-write .0))
+  pub write-not-one : (b : Bool) → ((σ : Shape) (list : List Wire) (buf : List ℕ) → refuses (f σ list buf .outcome) ≡ b) → ⊥
+  write-not-one b one = apart
+      (sym (ap (λ (a : Written). refuses (a .outcome)) (meets (sized bare) (bare .wires) (replicate 12 0) .0 ∙ worked-write .0))
       ∙ one (sized bare) (bare .wires) (replicate 12 0))
-      (sym (ap (λ (a : Written). done (a .outcome)) (meets (sized bare) (bare .wires) [] .0 ∙ worked-write .2)) ∙ one (sized bare) (bare .wires) [])
+      (sym (ap (λ (a : Written). refuses (a .outcome)) (meets (sized bare) (bare .wires) [] .0 ∙ worked-write .2)) ∙ one (sized bare) (bare .wires) [])
 
   -- it invents its length
   pub write-count : f (sized bare) (bare .wires) (replicate 12 0) .len ≡ 12
@@ -177,12 +177,12 @@ RunsAll f after = (σ : Shape) (list : List Wire) (shares randoms publics : ℕ)
 
 module _ (f : Shape → List Wire → ℕ → ℕ → ℕ → List ℕ → Ran) (after : Shape → List Wire → ℕ → ℕ → ℕ → List ℕ → List ℕ) (meets : RunsAll f after) where
   -- it refuses everything, or nothing
-  pub run-not-one : (k : ℕ) → ((σ : Shape) (list : List Wire) (shares randoms publics : ℕ) (buf : List ℕ)
-      → done (f σ list shares randoms publics buf .outcome) ≡ k) → ⊥
-  run-not-one k one = apart
-      (sym (ap (λ (a : Ran). done (a .outcome)) (meets (sized bare) (bare .wires) 1 0 0 (9 ∷ 9 ∷ 9 ∷ []) .0 ∙ worked-run .0))
+  pub run-not-one : (b : Bool) → ((σ : Shape) (list : List Wire) (shares randoms publics : ℕ) (buf : List ℕ)
+      → refuses (f σ list shares randoms publics buf .outcome) ≡ b) → ⊥
+  run-not-one b one = apart
+      (sym (ap (λ (a : Ran). refuses (a .outcome)) (meets (sized bare) (bare .wires) 1 0 0 (9 ∷ 9 ∷ 9 ∷ []) .0 ∙ worked-run .0))
       ∙ one (sized bare) (bare .wires) 1 0 0 (9 ∷ 9 ∷ 9 ∷ []))
-      (sym (ap (λ (a : Ran). done (a .outcome)) (meets (sized bare) (bare .wires) 1 0 0 [] .0 ∙ worked-run .2)) ∙ one (sized bare) (bare .wires) 1 0 0 [])
+      (sym (ap (λ (a : Ran). refuses (a .outcome)) (meets (sized bare) (bare .wires) 1 0 0 [] .0 ∙ worked-run .2)) ∙ one (sized bare) (bare .wires) 1 0 0 [])
 
   -- it invents its length
   pub run-count : f (sized bare) (bare .wires) 1 0 0 (9 ∷ 9 ∷ 9 ∷ []) .len ≡ 2

@@ -4,8 +4,8 @@ use mathlib.Core.List.{List, [], _∷_, _++_}
 use Prim.Native.Nat.{ℕ, zero, suc, _+_, _-_, _^_, _≤_, _<_}
 use lib.ListN.{length}
 use Rattle.document.specs.Judgements.{setsOf, setsInOrder}
-use Rattle.document.specs.declared.Verdict.the-variants as Says
-use Rattle.document.specs.declared.Judged.{Judged}
+use Rattle.data.specs.declared.Verdict.the-variants as Says
+use Rattle.data.specs.declared.Judged.{Judged}
 use Rattle.cones.specs.Making.{TablesOf}
 use Rattle.growing.specs.declared.Question.{Question}
 use Rattle.growing.specs.declared.Found.{Found}

@@ -1,16 +1,16 @@
 // The judgements: the sets in order, up to the first open one.
-use document::Judged;
-use document::Listing;
-use document::ProbeSet;
-use document::Refusal;
-use document::Verdict;
-use document::Which;
+use data::Judged;
+use data::Listing;
+use data::ProbeSet;
+use data::Refusal;
+use data::Verdict;
+use data::Which;
 use growing::Found;
 use growing::Grown;
 use growing::Question;
 ghost use mathlib.Core.Path.{_≡_};
 ghost use Prim.Native.Nat.{_-_, _≤_};
-ghost use Rattle.document.specs.ProbeSets.{held};
+ghost use Rattle.data.specs.ProbeSets.{held};
 ghost use Rattle.document.specs.Judgements.{judgedNot, judgementOf};
 ghost use Rattle.document.specs.Lent.{lentJudged};
 ghost use Rattle.cones.specs.Making.{TablesOf};

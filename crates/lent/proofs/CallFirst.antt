@@ -22,12 +22,12 @@ use denote.Triple.Statement.{Contract}
 use denote.Triple.Clauses.{ensured, lasts}
 use denote.Triple.Spec.{tripleOf}
 use Rattle.copies.specs.First.{listingOf}
-use Rattle.document.specs.declared.Wire.{Wire}
-use Rattle.document.specs.declared.Shape.{Shape}
-use Rattle.document.specs.declared.Listing.{Listing}
-use Rattle.document.proofs.Wire as W′
-use Rattle.document.proofs.Shape as S
-use Rattle.document.proofs.Shape.Laws as S′
+use Rattle.data.specs.declared.Wire.{Wire}
+use Rattle.data.specs.declared.Shape.{Shape}
+use Rattle.data.specs.declared.Listing.{Listing}
+use Rattle.data.proofs.Wire as W′
+use Rattle.data.proofs.Shape as S
+use Rattle.data.proofs.Shape.Laws as S′
 use Rattle.copies.proofs.listing_of as first
 
 -- the machine value of the list

@@ -34,14 +34,14 @@ use denote.Triple.Entry.{onEntry}
 use denote.Triple.Spec.{Meets, tripleOf}
 use denote.Triple.Walked.{says, Stays, stay-none-slice, stay-none, walkOf, goes-none-slice, goes-none, Walks, ends-at, walked, walk-meets}
 use Rattle.copies.specs.First.{listingOf}
-use Rattle.document.specs.declared.Wire.{Wire}
-use Rattle.document.specs.declared.Shape.{Shape}
-use Rattle.document.specs.declared.Listing.{Listing}
-use Rattle.document.proofs.Wire as W′
-use Rattle.document.proofs.Shape as S
-use Rattle.document.proofs.Shape.Laws as S′
-use Rattle.document.proofs.Listing as L
-use Rattle.document.proofs.Listing.Laws as L′
+use Rattle.data.specs.declared.Wire.{Wire}
+use Rattle.data.specs.declared.Shape.{Shape}
+use Rattle.data.specs.declared.Listing.{Listing}
+use Rattle.data.proofs.Wire as W′
+use Rattle.data.proofs.Shape as S
+use Rattle.data.proofs.Shape.Laws as S′
+use Rattle.data.proofs.Listing as L
+use Rattle.data.proofs.Listing.Laws as L′
 use Rattle.lent.proofs.CallFirst.{listVal, Own, First-is, First, to-first, asked-first, Said-first, said-first}
 use Rattle.lent.proofs.Passed.{Passed}
 use Rattle.copies.proofs.listing_of.Symbol.{name as #listing-of}

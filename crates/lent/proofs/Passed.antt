@@ -16,16 +16,16 @@ use denote.Builtin as B
 use denote.Plain.{uint-tells, uint-makes, uint-lawful}
 use denote.Enum.Laws as EL
 use denote.Struct.Laws as LL
-use Rattle.document.proofs.Which as Which′
-use Rattle.document.proofs.Which.Laws as Which″
-use Rattle.document.proofs.ProbeSet as Set′
-use Rattle.document.proofs.ProbeSet.Laws as Set″
-use Rattle.document.proofs.Needed as Needed′
-use Rattle.document.proofs.Needed.Laws as Needed″
-use Rattle.document.proofs.Padded as Padded′
-use Rattle.document.proofs.Padded.Laws as Padded″
-use Rattle.document.proofs.Judged as Judged′
-use Rattle.document.proofs.Judged.Laws as Judged″
+use Rattle.data.proofs.Which as Which′
+use Rattle.data.proofs.Which.Laws as Which″
+use Rattle.data.proofs.ProbeSet as Set′
+use Rattle.data.proofs.ProbeSet.Laws as Set″
+use Rattle.data.proofs.Needed as Needed′
+use Rattle.data.proofs.Needed.Laws as Needed″
+use Rattle.data.proofs.Padded as Padded′
+use Rattle.data.proofs.Padded.Laws as Padded″
+use Rattle.data.proofs.Judged as Judged′
+use Rattle.data.proofs.Judged.Laws as Judged″
 
 pub record Passed : Type 2 where
   pub row : RattleType

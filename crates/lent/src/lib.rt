@@ -1,16 +1,16 @@
 // The calls over a lent list of wire records.
 // Every function that has the list is straight-line and tests nothing: `copies` copies records to and from listings, and functions that
 // have those decide.
-use document::Filled;
-use document::Judged;
-use document::Needed;
-use document::Padded;
-use document::ProbeSet;
-use document::Ran;
-use document::Shape;
-use document::Which;
-use document::Wire;
-use document::Written;
+use data::Filled;
+use data::Judged;
+use data::Needed;
+use data::Padded;
+use data::ProbeSet;
+use data::Ran;
+use data::Shape;
+use data::Which;
+use data::Wire;
+use data::Written;
 ghost use mathlib.Core.Path.{_≡_};
 ghost use Rattle.document.specs.Judgements.{judgementOf};
 ghost use Rattle.document.specs.Lent.{lentNeeding, lentPadding, lentJudged, ReadsInto, WritesInto, RunsInto};

@@ -4,9 +4,9 @@ use mathlib.Core.List.{List, [], _∷_}
 use Prim.Native.Nat.{ℕ}
 use Rattle.document.specs.Laws.Cuts.{cut-some}
 use Rattle.document.specs.Lines.{cut, ofFields, wordOf}
-use Rattle.document.specs.declared.Number.{Number}
-use Rattle.document.specs.declared.Word.{Word}
-use Rattle.document.specs.declared.Line.the-variants as L
+use Rattle.data.specs.declared.Number.{Number}
+use Rattle.data.specs.declared.Word.{Word}
+use Rattle.data.specs.declared.Line.the-variants as L
 use Rattle.line.specs.Fields.{afterWord, afterSecond}
 
 pub by-field : (w : List ℕ) (fs : List (List ℕ)) → ofFields (w ∷ fs) ≡ afterWord (wordOf w) fs

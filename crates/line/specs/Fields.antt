@@ -2,10 +2,10 @@
 use mathlib.Core.List.{List, [], _∷_}
 use Prim.Native.Nat.{ℕ}
 use Rattle.document.specs.Lines.{number, of1, of2, of3}
-use Rattle.document.specs.declared.Word.{Word}
-use Rattle.document.specs.declared.Number.{Number}
-use Rattle.document.specs.declared.Line.{Line}
-use Rattle.document.specs.declared.Line.the-variants as L
+use Rattle.data.specs.declared.Word.{Word}
+use Rattle.data.specs.declared.Number.{Number}
+use Rattle.data.specs.declared.Line.{Line}
+use Rattle.data.specs.declared.Line.the-variants as L
 
 -- the line whose word and two numbers are read, of the fields behind them
 abbrev pub afterSecond : Word → Number → Number → List (List ℕ) → Line

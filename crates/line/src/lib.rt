@@ -1,8 +1,8 @@
 // The form of one line of a routine text: its word and its numbers.
-use document::Line;
-use document::Number;
-use document::TAB;
-use document::Word;
+use data::Line;
+use data::Number;
+use data::TAB;
+use data::Word;
 ghost use mathlib.Core.Path.{_≡_};
 ghost use Rattle.document.specs.Lines.{cut, tab, with1, with2, with3, of1, of2, of3, lineOf};
 ghost use Rattle.line.specs.Fields.{afterWord, afterFirst, afterSecond};

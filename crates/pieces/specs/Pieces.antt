@@ -3,10 +3,10 @@ use mathlib.Core.Bool.{Bool, true, false}
 use mathlib.Core.List.{List, [], _∷_, _++_}
 use Prim.Native.Nat.{ℕ}
 use Rattle.document.specs.Lines.{tab, lf, decimal, spelled}
-use Rattle.document.specs.declared.Kind.{Kind}
-use Rattle.document.specs.declared.Kind.the-variants as K
-use Rattle.document.specs.declared.Wire.{Wire}
-use Rattle.document.specs.declared.Word.the-variants as W
+use Rattle.data.specs.declared.Kind.{Kind}
+use Rattle.data.specs.declared.Kind.the-variants as K
+use Rattle.data.specs.declared.Wire.{Wire}
+use Rattle.data.specs.declared.Word.the-variants as W
 use Rattle.pieces.specs.declared.Part.{Part}
 use Rattle.pieces.specs.declared.Part.the-variants.{Wires, Outputs}
 

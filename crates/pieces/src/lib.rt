@@ -1,6 +1,6 @@
 // The lines of a routine's text, one wire at a time: how long they are, and the bytes themselves.
-use document::Kind;
-use document::Wire;
+use data::Kind;
+use data::Wire;
 ghost use mathlib.Core.Path.{_≡_};
 ghost use mathlib.Core.List.{_∷_, []};
 ghost use Prim.Native.Nat.{_+_, _≤_, _<_};
@@ -23,15 +23,15 @@ fn put_number(n: u8, at: usize, buf: &mut [u8]) -> usize
     ensures { λ r. ⌜ Put (now (buf .entry)) at (decimal n) r (now (buf .exit)) ⌝ }
 {
     if n < 10 {
-        return buffer::put_byte(document::ZERO + n, at, buf);
+        return buffer::put_byte(data::ZERO + n, at, buf);
     }
     if n < 100 {
-        let ones = buffer::put_byte(document::ZERO + n / 10, at, buf);
-        return buffer::put_byte(document::ZERO + n % 10, ones, buf);
+        let ones = buffer::put_byte(data::ZERO + n / 10, at, buf);
+        return buffer::put_byte(data::ZERO + n % 10, ones, buf);
     }
-    let tens = buffer::put_byte(document::ZERO + n / 100, at, buf);
-    let ones = buffer::put_byte(document::ZERO + n / 10 % 10, tens, buf);
-    buffer::put_byte(document::ZERO + n % 10, ones, buf)
+    let tens = buffer::put_byte(data::ZERO + n / 100, at, buf);
+    let ones = buffer::put_byte(data::ZERO + n / 10 % 10, tens, buf);
+    buffer::put_byte(data::ZERO + n % 10, ones, buf)
 }
 
 // A tab and a number.
@@ -39,7 +39,7 @@ fn put_field(n: u8, at: usize, buf: &mut [u8]) -> usize
     requires { ⌜ at + length (tab ∷ decimal n) ≤ length (now buf) ⌝ }
     ensures { λ r. ⌜ Put (now (buf .entry)) at (tab ∷ decimal n) r (now (buf .exit)) ⌝ }
 {
-    let k = buffer::put_byte(document::TAB, at, buf);
+    let k = buffer::put_byte(data::TAB, at, buf);
     put_number(n, k, buf)
 }
 
@@ -51,7 +51,7 @@ fn put_line1(word: &[u8], a: u8, at: usize, buf: &mut [u8]) -> usize
 {
     let i = buffer::put_word(word, at, buf);
     let j = put_field(a, i, buf);
-    buffer::put_byte(document::LF, j, buf)
+    buffer::put_byte(data::LF, j, buf)
 }
 
 pub fn put_line2(word: &[u8], a: u8, b: u8, at: usize, buf: &mut [u8]) -> usize
@@ -61,7 +61,7 @@ pub fn put_line2(word: &[u8], a: u8, b: u8, at: usize, buf: &mut [u8]) -> usize
     let i = buffer::put_word(word, at, buf);
     let j = put_field(a, i, buf);
     let k = put_field(b, j, buf);
-    buffer::put_byte(document::LF, k, buf)
+    buffer::put_byte(data::LF, k, buf)
 }
 
 fn put_line3(word: &[u8], a: u8, b: u8, c: u8, at: usize, buf: &mut [u8]) -> usize
@@ -72,7 +72,7 @@ fn put_line3(word: &[u8], a: u8, b: u8, c: u8, at: usize, buf: &mut [u8]) -> usi
     let j = put_field(a, i, buf);
     let k = put_field(b, j, buf);
     let m = put_field(c, k, buf);
-    buffer::put_byte(document::LF, m, buf)
+    buffer::put_byte(data::LF, m, buf)
 }
 
 // ---- lengths

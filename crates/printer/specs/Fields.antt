@@ -2,8 +2,8 @@
 use mathlib.Core.List.{List, [], _∷_, _++_}
 use Prim.Native.Nat.{ℕ}
 use Rattle.document.specs.Desk.{printed, space, printedLine, refusedWord}
-use Rattle.document.specs.Refusals.{numberOf}
-use Rattle.document.specs.declared.Refusal.{Refusal}
+use Rattle.data.specs.Refusals.{numberOf}
+use Rattle.data.specs.declared.Refusal.{Refusal}
 
 -- the fields, each behind a space
 unfoldable pub spaced : List (List ℕ) → List ℕ

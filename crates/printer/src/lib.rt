@@ -1,14 +1,14 @@
 // The lines that the desk prints: numbers, fields, the line of an answer and the line of a refused text.
-use document::Judged;
-use document::ProbeSet;
-use document::Refusal;
-use document::Verdict;
+use data::Judged;
+use data::ProbeSet;
+use data::Refusal;
+use data::Verdict;
 ghost use mathlib.Core.Path.{_≡_};
 ghost use mathlib.Core.List.{_∷_, _++_};
 ghost use Prim.Native.Nat.{_+_, _≤_};
 ghost use lib.ListN.{length};
 ghost use Rattle.buffer.specs.Put.{Put};
-ghost use Rattle.document.specs.ProbeSets.{held};
+ghost use Rattle.data.specs.ProbeSets.{held};
 ghost use Rattle.document.specs.Desk.{printed, verdictFields, answerLine};
 ghost use Rattle.printer.specs.Fields.{spaced, numberField, wireFields, refusedLine};
 ghost use Rattle.printer.specs.Rooms.{numberRoom, countedRoom, wiresRoom, verdictRoom, wordRoom, answerRoom, refusedRoom};
@@ -19,10 +19,10 @@ fn put_printed(n: u64, at: usize, buf: &mut [u8]) -> usize
     ensures { λ r. ⌜ Put (now (buf .entry)) at (printed n) r (now (buf .exit)) ⌝ }
 {
     if n < 10 {
-        return buffer::put_byte(document::ZERO + n as u8, at, buf);
+        return buffer::put_byte(data::ZERO + n as u8, at, buf);
     }
     let last = put_printed(n / 10, at, buf);
-    buffer::put_byte(document::ZERO + (n % 10) as u8, last, buf)
+    buffer::put_byte(data::ZERO + (n % 10) as u8, last, buf)
 }
 
 // A space and a number.
@@ -30,7 +30,7 @@ fn put_spaced(n: u64, at: usize, buf: &mut [u8]) -> usize
     requires { ⌜ at + numberRoom ≤ length (now buf) ⌝ }
     ensures { λ r. ⌜ Put (now (buf .entry)) at (numberField n) r (now (buf .exit)) ⌝ }
 {
-    let k = buffer::put_byte(document::SPACE, at, buf);
+    let k = buffer::put_byte(data::SPACE, at, buf);
     put_printed(n, k, buf)
 }
 
@@ -50,7 +50,7 @@ fn put_wires(set: ProbeSet, at: usize, buf: &mut [u8]) -> usize
     ensures { λ r. ⌜ Put (now (buf .entry)) at (wireFields (held set)) r (now (buf .exit)) ⌝ }
 {
     let places = set.places;
-    let end = document::lower(set.len, 4);
+    let end = data::lower(set.len, 4);
     let mut o = at;
     let mut i = 0;
     while i < end {
@@ -85,7 +85,7 @@ pub fn put_answer(word: &[u8], t: usize, answer: Judged, at: usize, buf: &mut [u
     let verdict = answer.verdict;
     let set = answer.set;
     let end = put_verdict(t as u64, verdict, set, k, buf);
-    buffer::put_byte(document::LF, end, buf)
+    buffer::put_byte(data::LF, end, buf)
 }
 
 // The line of a refused text.
@@ -97,5 +97,5 @@ pub fn put_refused(f: Refusal, line: usize, at: usize, buf: &mut [u8]) -> usize
     let i = buffer::put_word(b"refused", at, buf);
     let j = put_spaced(number, i, buf);
     let end = put_spaced(line as u64, j, buf);
-    buffer::put_byte(document::LF, end, buf)
+    buffer::put_byte(data::LF, end, buf)
 }

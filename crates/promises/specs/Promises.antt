@@ -13,11 +13,18 @@ pub use Rattle.records.specs.Laws.Once.{fit-once}
 pub use Rattle.writer.specs.Laws.Once.{write-once}
 pub use Rattle.runner.specs.Laws.Once.{run-once}
 -- probe sets, the two calls on one set and the judging call: of any list of records, by value or lent
-pub use Rattle.document.specs.Laws.Answers.{empty-once, add-once}
+pub use Rattle.data.specs.Laws.Once.{empty-once, add-once}
 pub use Rattle.rule.specs.Laws.Once.{needs-once, pads-once}
 pub use Rattle.judge.specs.Laws.Once.{judge-once}
 -- what the desk program prints
 pub use Rattle.report.specs.Laws.Once.{report-once}
+-- the refusals are numbered as their table has them, and each call's number is that of the first test that fails
+pub use Rattle.data.specs.Laws.Numbers.{numbers-are, numbers-differ}
+pub use Rattle.document.specs.RefusalTheorems.{reading-number, no-header-number, header-number, form-number, wire-number, out-number, read-number}
+pub use Rattle.document.specs.RefusalTheorems.{write-number, run-number, add-number, needs-number, pads-number, judge-number}
+-- a refused call gives nothing, and leaves what it was lent as it was
+pub use Rattle.document.specs.RefusalTheorems.{refused-reading, refused-read, refused-write, refused-run, refused-add}
+pub use Rattle.document.specs.RefusalTheorems.{refused-needs, refused-pads, refused-judge, not-open-empty, told-pass, told-open}
 -- ---- demand 2: each answer is the specification's own
 
 -- writing what was read gives the same text, and reading what was written the same routine; no routine has two texts, and no text two routines
@@ -26,17 +33,27 @@ pub use Rattle.roundtrip.specs.TextTheorems.{text-again, read-written, written-
 pub use Rattle.roundtrip.specs.TextTheorems.{readable, records-readable}
 -- the worked examples, and the shortcuts that are not taken
 pub use Rattle.document.specs.Theorems.{examples, no-shortcuts}
--- the padding rule is run to its end, which no order of steps changes; a probe more never frees a share
-pub use Rattle.document.specs.Theorems.{padding-ends, any-order, more-probes}
+pub use Rattle.document.specs.Examples.{lines, bounds, values}
+-- the steps are the run of the rule, which goes on to its end; no order of steps changes that end, and a probe more never frees a share
+pub use Rattle.document.specs.Theorems.{steps-are-run, padding-ends, any-order, more-probes}
 -- the sets judged are all of them, in order and once each; a judgement passes exactly when none is open, and else has the first open one and its place
 pub use Rattle.document.specs.Theorems.{sets-are, sets-in-order, refused-records, refused-order, passes-exactly, open-first, first-opens}
 -- no impostor meets a contract
 pub use Rattle.impostors.specs.Impostors.{read-not-one, read-count, write-not-one, write-count, write-nothing, run-not-one, run-count, run-values}
-pub use Rattle.impostors.specs.Impostors.{needs-not-one, needs-not-always, needs-no-step, needs-first-step, pads-not-one, pads-not-always, pads-steps}
-pub use Rattle.impostors.specs.Impostors.{plain-not-one, strong-not-one, plain-count, strong-count}
+pub use Rattle.impostors.specs.Impostors.{needs-not-one, needs-not-always, needs-no-step, needs-first-step}
+pub use Rattle.impostors.specs.Impostors.{pads-not-one, pads-not-always, pads-steps, pads-only-listed}
+pub use Rattle.impostors.specs.Impostors.{plain-not-one, strong-not-one, plain-not-closed, plain-count, strong-count}
 -- ---- demand 3: what a plain pass means
 
+-- the starts are every splitting of the secrets with every drawing of the randoms, each once; and counts of single patterns, computed
+pub use Rattle.document.specs.Theorems.{starts-are, starts-differ, starts-many}
+pub use Rattle.document.specs.Examples.{counts}
 -- it passes at every lower order
 pub use Rattle.document.specs.Theorems.{passes-below}
 -- any two choices of the secrets give each pattern of observed bits from the same number of starts
 pub use Rattle.document.specs.Theorems.{shows-nothing}
+-- both, of what a judging call answers, of a printed line `plain t pass c`, and of the bytes that a report gives
+pub use Rattle.document.specs.Theorems.{pass-keeps, pass-worth, lent-pass-keeps, printed-pass-keeps}
+pub use Rattle.report.specs.Laws.Worth.{reported-pass-keeps}
+-- what is cut off behind 4,097 bytes changes nothing that is printed; `desk` has this and the one before of what the program writes
+pub use Rattle.document.specs.Theorems.{cut-prints-same}

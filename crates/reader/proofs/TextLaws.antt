@@ -10,18 +10,18 @@ use lib.Dec.{leb, lit≤}
 use lib.ListN.{length, getD, take, drop, set, drop-of-length-le, length-drop}
 use lib.Seq.{drop-drop, drop-cons}
 use borrow.Author.Tests.{leb-true, lt-ltb, le-ltb, lt-leb, le-leb, eq-eqb, ne-eqb}
-use Rattle.document.specs.Basics.{each}
-use Rattle.document.specs.Laws.Tests.{and-l, and-r}
+use Rattle.data.specs.Basics.{each}
+use Rattle.data.specs.Laws.Tests.{and-l, and-r}
 use Rattle.document.specs.Routine.{inRange}
 use Rattle.document.specs.Lines.{cut, heads, lf, lineOf, linesIn}
 use Rattle.document.specs.Reading.{takeLine, notRead, readAll, onward, readLines, shareRecords, begun, fromHeader, fromFirst, letter, reading}
-use Rattle.document.specs.declared.Kind.the-variants as K
-use Rattle.document.specs.declared.Line.{Line}
-use Rattle.document.specs.declared.Refusal.{Refusal}
-use Rattle.document.specs.declared.Refusal.the-variants as No
-use Rattle.document.specs.declared.Outcome.the-variants.{Done, Refused}
-use Rattle.document.specs.declared.State.{State}
-use Rattle.document.specs.declared.Taken.{Taken}
+use Rattle.data.specs.declared.Kind.the-variants as K
+use Rattle.data.specs.declared.Line.{Line}
+use Rattle.data.specs.declared.Refusal.{Refusal}
+use Rattle.data.specs.declared.Refusal.the-variants as No
+use Rattle.data.specs.declared.Outcome.the-variants.{Done, Refused}
+use Rattle.data.specs.declared.State.{State}
+use Rattle.data.specs.declared.Taken.{Taken}
 use Rattle.document.specs.Laws.Cuts.{cut-some}
 use Rattle.taking.specs.Ceilings.{UnderCeilings}
 use Rattle.taking.proofs.LineLaws.{take-bounded}

@@ -1,15 +1,15 @@
 // Reading a routine text by value.
-use document::Kind;
-use document::LF;
-use document::Line;
-use document::Listing;
-use document::Outcome;
-use document::Read;
-use document::Refusal;
-use document::Shape;
-use document::State;
-use document::TAB;
-use document::Wire;
+use data::Kind;
+use data::LF;
+use data::Line;
+use data::Listing;
+use data::Outcome;
+use data::Read;
+use data::Refusal;
+use data::Shape;
+use data::State;
+use data::TAB;
+use data::Wire;
 use fields::DIGIT_NINE;
 use fields::DIGIT_ZERO;
 ghost use mathlib.Core.Path.{_≡_};
@@ -17,7 +17,7 @@ ghost use mathlib.Core.Bool.{true, _&&_, cond};
 ghost use Prim.Native.Nat.{_≤_, _<_};
 ghost use lib.Dec.{leb};
 ghost use lib.ListN.{length, drop};
-ghost use Rattle.document.specs.Basics.{each};
+ghost use Rattle.data.specs.Basics.{each};
 ghost use Rattle.document.specs.Routine.{inRange};
 ghost use Rattle.document.specs.Lines.{linesIn};
 ghost use Rattle.document.specs.Reading.{notRead, readAll, readLines, shareRecords, begun, fromHeader, letter, reading};
@@ -36,7 +36,7 @@ fn refuse(f: Refusal, k: usize) -> Read
 {
     let outcome = Outcome::Refused(f);
     let shape = Shape { s: 0, d: 0, n: 0 };
-    let wires = document::blank_wires();
+    let wires = listing::blank_wires();
     let listing = Listing { shape, wires };
     Read {
         outcome,
@@ -98,7 +98,7 @@ fn share_records(n: usize, d: usize) -> [Wire; 128]
     requires { ⌜ (n ≤ 128) × (0 < d) × (d ≤ 8) ⌝ }
     ensures { λ r. ⌜ r ≡ shareRecords d n ⌝ }
 {
-    let mut wires = document::blank_wires();
+    let mut wires = listing::blank_wires();
     let mut i = 0;
     while i < n {
         wires[i] = Wire {
@@ -142,7 +142,7 @@ fn from_range(text: &[u8], from: usize, s: usize, d: usize) -> Read
     requires { ⌜ from ≤ length (now text) ⌝ }
     ensures { λ r. ⌜ r ≡ cond (inRange s d) (readLines 2 (begun s d) (linesIn (drop from (now (text .entry))))) (notRead Refusal.Range 1) ⌝ }
 {
-    if document::in_range(s, d) {
+    if listing::in_range(s, d) {
         return read_lines(text, from, begin(s, d));
     }
     refuse(Refusal::Range, 1)

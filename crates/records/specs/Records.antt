@@ -5,10 +5,10 @@ use mathlib.Core.List.{List, []}
 use Prim.Native.Nat.{ℕ, _+_, _*_, _≤_, _<_}
 use lib.Dec.{leb}
 use lib.ListN.{length, getD, take}
-use Rattle.document.specs.Basics.{one, tally}
+use Rattle.data.specs.Basics.{one, tally}
 use Rattle.document.specs.Routine.{blank, isRand, isPub, fits, routineOf}
-use Rattle.document.specs.declared.Wire.{Wire}
-use Rattle.document.specs.declared.Shape.{Shape}
+use Rattle.data.specs.declared.Wire.{Wire}
+use Rattle.data.specs.declared.Shape.{Shape}
 use Rattle.records.specs.declared.Counts.{Counts}
 
 -- the record of wire w

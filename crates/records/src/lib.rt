@@ -1,12 +1,12 @@
 // The test behind refusal 11: whether S, D, n and the first n records are what a read could have given.
-use document::Kind;
-use document::Listing;
-use document::Shape;
-use document::Wire;
+use data::Kind;
+use data::Listing;
+use data::Shape;
+use data::Wire;
 ghost use mathlib.Core.Path.{_≡_};
 ghost use mathlib.Core.Bool.{true, false};
 ghost use Prim.Native.Nat.{_+_, _*_, _≤_, _<_};
-ghost use Rattle.document.specs.Basics.{one, all};
+ghost use Rattle.data.specs.Basics.{one, all};
 ghost use Rattle.document.specs.Routine.{isRand, isPub, recordsFit};
 ghost use Rattle.records.specs.Records.{recordAt, countsOf, withRecord, Room, ceilingsMet, Ranged, fitsAt};
 
@@ -132,7 +132,7 @@ pub fn records_fit(listing: Listing) -> bool
     if 128 < n {
         return false;
     }
-    if !document::in_range(s, d) {
+    if !listing::in_range(s, d) {
         return false;
     }
     if n < s * d {

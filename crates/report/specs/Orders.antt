@@ -4,8 +4,8 @@ use Prim.Native.Nat.{ℕ, _*_}
 use Rattle.document.specs.Routine.{Routine}
 use Rattle.document.specs.Judgements.{judged, judgementOf}
 use Rattle.document.specs.Desk.{plainWord, strongWord, answerLine}
-use Rattle.document.specs.declared.Which.{Which}
-use Rattle.document.specs.declared.Which.the-variants.{Plain, Strong}
+use Rattle.data.specs.declared.Which.{Which}
+use Rattle.data.specs.declared.Which.the-variants.{Plain, Strong}
 use Rattle.printer.specs.Rooms.{answerRoom}
 
 -- the word of a judgement

@@ -1,15 +1,15 @@
 // The report on a routine text: what the desk program prints for it.
-use document::Listing;
-use document::Outcome;
-use document::Read;
-use document::Which;
+use data::Listing;
+use data::Outcome;
+use data::Read;
+use data::Which;
 ghost use mathlib.Core.Path.{_≡_};
 ghost use Prim.Native.Nat.{_+_, _-_, _≤_, min};
 ghost use lib.ListN.{length};
 ghost use Rattle.buffer.specs.Put.{Put};
 ghost use Rattle.document.specs.Routine.{routineOf};
 ghost use Rattle.document.specs.Desk.{orderLines, textLines};
-ghost use Rattle.document.specs.declared.Outcome.the-variants.{Done};
+ghost use Rattle.data.specs.declared.Outcome.the-variants.{Done};
 ghost use Rattle.printer.specs.Rooms.{answerRoom};
 ghost use Rattle.report.specs.Orders.{judgementLine, orderPair, orderRoom, reportRoom};
 ghost use Rattle.report.specs.Reports.{Reported};
@@ -24,7 +24,7 @@ fn orders(d: usize) -> usize
     if d < 1 {
         return 0;
     }
-    document::lower(4, d - 1)
+    data::lower(4, d - 1)
 }
 
 // The line of one judgement of order t.

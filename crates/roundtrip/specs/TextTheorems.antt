@@ -5,10 +5,10 @@ use mathlib.Core.List.{List}
 use mathlib.Core.Logic.{_↔_}
 use Prim.Native.Nat.{ℕ, _-_, _*_, _≤_, _<_}
 use lib.ListN.{length}
-use Rattle.document.specs.declared.Wire.{Wire}
-use Rattle.document.specs.declared.Outcome.the-variants.{Done}
-use Rattle.document.specs.declared.Read.{Read}
-use Rattle.document.specs.declared.Shape.{Shape}
+use Rattle.data.specs.declared.Wire.{Wire}
+use Rattle.data.specs.declared.Outcome.the-variants.{Done}
+use Rattle.data.specs.declared.Read.{Read}
+use Rattle.data.specs.declared.Shape.{Shape}
 use Rattle.document.specs.Routine.{Routine, size, wellFormed, recordsFit}
 use Rattle.document.specs.Reading.{reading, routineIn, CouldBeRead}
 use Rattle.document.specs.Writing.{wireLine, linesOf, textOf}

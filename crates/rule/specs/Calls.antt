@@ -2,9 +2,9 @@
 use mathlib.Core.Bool.{Bool, _&&_, true}
 use Prim.Native.Nat.{ℕ}
 use lib.Dec.{ltb, leb}
-use Rattle.document.specs.Basics.{each}
-use Rattle.document.specs.ProbeSets.{held, ascending}
-use Rattle.document.specs.declared.ProbeSet.{ProbeSet}
+use Rattle.data.specs.Basics.{each}
+use Rattle.data.specs.ProbeSets.{held, ascending}
+use Rattle.data.specs.declared.ProbeSet.{ProbeSet}
 use mathlib.Core.Path.{_≡_}
 use mathlib.Core.List.{List, _++_}
 use lib.ListN.{length, take, replicate}
@@ -12,11 +12,11 @@ use Rattle.document.specs.Routine.{Routine, recordsFit}
 use Rattle.document.specs.Padding.{steps, neededShares}
 use Rattle.document.specs.Judgements.{plain, isOpen, setRefusal, noStep}
 use Rattle.document.specs.Lent.{lent}
-use Rattle.document.specs.declared.Wire.{Wire}
-use Rattle.document.specs.declared.Shape.{Shape}
-use Rattle.document.specs.declared.Outcome.{Outcome}
-use Rattle.document.specs.declared.Outcome.the-variants.{Done, Refused}
-use Rattle.document.specs.declared.Refusal.the-variants as No
+use Rattle.data.specs.declared.Wire.{Wire}
+use Rattle.data.specs.declared.Shape.{Shape}
+use Rattle.data.specs.declared.Outcome.{Outcome}
+use Rattle.data.specs.declared.Outcome.the-variants.{Done, Refused}
+use Rattle.data.specs.declared.Refusal.the-variants as No
 use Rattle.rule.specs.declared.Observed.{Observed}
 
 -- ---- the tests, by the numbers that they look at

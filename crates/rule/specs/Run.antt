@@ -3,11 +3,11 @@ use mathlib.Core.List.{List}
 use Prim.Native.Nat.{ℕ, _+_, _*_}
 use lib.ListN.{length, set, replicate}
 use lib.Seq.{sets}
-use Rattle.document.specs.Basics.{Marks, at, mark}
+use Rattle.data.specs.Basics.{Marks, at, mark}
 use Rattle.document.specs.Routine.{Routine, size}
 use Rattle.document.specs.Padding.{firstLeaves, live, stepped, stepsFrom, steps, paddedWires, word}
 use Rattle.document.specs.Judgements.{noStep}
-use Rattle.document.specs.declared.Step.{Step}
+use Rattle.data.specs.declared.Step.{Step}
 use Rattle.rule.specs.declared.Run.{Run}
 
 -- ---- one step more

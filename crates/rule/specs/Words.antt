@@ -3,7 +3,7 @@ use mathlib.Core.Bool.{Bool}
 use Prim.Native.Nat.{ℕ, _*_, _/_, _%_, _^_, _≤_}
 use lib.Count.{ones}
 use lib.Dec.{ltb}
-use Rattle.document.specs.Basics.{some}
+use Rattle.data.specs.Basics.{some}
 
 -- the shares of S secrets of D shares have a bit each in the word
 pub record Shares (s d : ℕ) : Type 0 where

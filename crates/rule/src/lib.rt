@@ -1,19 +1,19 @@
 // The padding rule run to its end for a set of observed wires, and the two calls on one probe set.
-use document::Listing;
-use document::Needed;
-use document::Outcome;
-use document::Padded;
-use document::ProbeSet;
-use document::Refusal;
-use document::Shape;
-use document::Step;
-use document::Wire;
+use data::Listing;
+use data::Needed;
+use data::Outcome;
+use data::Padded;
+use data::ProbeSet;
+use data::Refusal;
+use data::Shape;
+use data::Step;
+use data::Wire;
 use step::Next;
 ghost use mathlib.Core.Path.{_≡_};
 ghost use Prim.Native.Nat.{_+_, _*_, _^_, _≤_, _<_};
 ghost use lib.Dec.{ltb};
 ghost use lib.ListN.{take, replicate};
-ghost use Rattle.document.specs.Basics.{one, at, each};
+ghost use Rattle.data.specs.Basics.{one, at, each};
 ghost use Rattle.document.specs.Reading.{routineIn};
 ghost use Rattle.document.specs.Padding.{live, word};
 ghost use Rattle.document.specs.Judgements.{noStep, neededNot, paddedNot};
@@ -199,7 +199,7 @@ fn probes_fit(set: ProbeSet, n: usize, t: usize) -> bool
     if t < len {
         return false;
     }
-    if !document::is_ascending(places, len) {
+    if !data::is_ascending(places, len) {
         return false;
     }
     all_named(places, len, n)

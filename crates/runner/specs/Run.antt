@@ -6,11 +6,11 @@ use lib.Dec.{ltb}
 use lib.ListN.{getD, take}
 use Rattle.document.specs.Routine.{routineOf}
 use Rattle.document.specs.Running.{bit, gives, bits, firstValues}
-use Rattle.document.specs.declared.Outcome.the-variants.{Refused}
-use Rattle.document.specs.declared.Ran.{Ran}
-use Rattle.document.specs.declared.Refusal.{Refusal}
-use Rattle.document.specs.declared.Shape.{Shape}
-use Rattle.document.specs.declared.Wire.{Wire}
+use Rattle.data.specs.declared.Outcome.the-variants.{Refused}
+use Rattle.data.specs.declared.Ran.{Ran}
+use Rattle.data.specs.declared.Refusal.{Refusal}
+use Rattle.data.specs.declared.Shape.{Shape}
+use Rattle.data.specs.declared.Wire.{Wire}
 use Rattle.records.specs.declared.Counts.{Counts}
 
 -- a refused run wrote nothing

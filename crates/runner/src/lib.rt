@@ -1,11 +1,11 @@
 // Running a routine: 0 or 1 for each of its wires, written into a lent buffer.
-use document::Kind;
-use document::Listing;
-use document::Outcome;
-use document::Ran;
-use document::Refusal;
-use document::Shape;
-use document::Wire;
+use data::Kind;
+use data::Listing;
+use data::Outcome;
+use data::Ran;
+use data::Refusal;
+use data::Shape;
+use data::Wire;
 use records::Counts;
 ghost use mathlib.Core.Path.{_≡_};
 ghost use mathlib.Core.List.{_++_};

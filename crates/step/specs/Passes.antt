@@ -3,9 +3,9 @@ use mathlib.Core.List.{List}
 use Prim.Native.Nat.{ℕ, _≤_, _<_}
 use lib.ListN.{length, getD, set}
 use Rattle.document.specs.Routine.{Routine, routineOf}
-use Rattle.document.specs.declared.Wire.{Wire}
-use Rattle.document.specs.declared.Shape.{Shape}
-use Rattle.document.specs.declared.ProbeSet.{ProbeSet}
+use Rattle.data.specs.declared.Wire.{Wire}
+use Rattle.data.specs.declared.Shape.{Shape}
+use Rattle.data.specs.declared.ProbeSet.{ProbeSet}
 use Rattle.records.specs.Records.{recordAt}
 
 -- n wires alone: the rule's steps look at neither S nor D

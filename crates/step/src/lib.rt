@@ -1,18 +1,18 @@
 // One step of the padding rule: the marks that a search goes by, and the search for the next step.
-use document::Kind;
-use document::ProbeSet;
-use document::Step;
-use document::Wire;
+use data::Kind;
+use data::ProbeSet;
+use data::Step;
+use data::Wire;
 ghost use mathlib.Core.Path.{_≡_};
 ghost use mathlib.Core.Bool.{true, cond};
 ghost use mathlib.Core.Option.{none};
 ghost use Prim.Native.Nat.{_<_, max};
 ghost use lib.ListN.{getD, set};
-ghost use Rattle.document.specs.Basics.{mark};
+ghost use Rattle.data.specs.Basics.{mark};
 ghost use Rattle.document.specs.Routine.{isRand, operandsOf};
-ghost use Rattle.document.specs.ProbeSets.{held};
+ghost use Rattle.data.specs.ProbeSets.{held};
 ghost use Rattle.document.specs.Padding.{probed, firstLeaves, live, padsOf, padsBy, firstPad, lowestPad, nextStep};
-ghost use Rattle.document.specs.declared.Kind.the-variants.{Xor};
+ghost use Rattle.data.specs.declared.Kind.the-variants.{Xor};
 ghost use Rattle.step.specs.Passes.{wired, Wired, Low, LowProbes};
 ghost use Rattle.step.specs.Consumers.{bumped, bumpedTwo, countedWith, Spare, Consumers};
 ghost use Rattle.step.specs.Next.{stepIn, isXor, servesBy, SearchFits};
@@ -211,7 +211,7 @@ fn pad_by_two(
     if a == b {
         return Next::End;
     }
-    let low = document::lower(a, b);
+    let low = data::lower(a, b);
     let high = higher(a, b);
     if can_serve(low, probe, leaf, counts) {
         let step = Step {

@@ -5,17 +5,17 @@ use Prim.Native.Nat.{ℕ, _+_, _≤_, _<_}
 use native.Mathlib.Omega.{arith}
 use lib.Dec.{leb, eqb, ltb}
 use borrow.Author.Tests.{leb-true, eqb-true, ltb-true, lt-ltb, le-ltb, lt-leb, le-leb}
-use Rattle.document.specs.Basics.{one, each}
-use Rattle.document.specs.Laws.Tests.{and-l, and-r, cond-cases}
+use Rattle.data.specs.Basics.{one, each}
+use Rattle.data.specs.Laws.Tests.{and-l, and-r, cond-cases}
 use Rattle.document.specs.Routine.{isRand, isPub, operandsOf}
 use Rattle.document.specs.Reading.{taken, notTaken, made, marked, isNext, earlier, hasRoom, make, markOut, takeLine}
-use Rattle.document.specs.declared.Kind.{Kind}
-use Rattle.document.specs.declared.Kind.the-variants as K
-use Rattle.document.specs.declared.Line.{Line}
-use Rattle.document.specs.declared.Line.the-variants as L
-use Rattle.document.specs.declared.Refusal.the-variants as No
-use Rattle.document.specs.declared.State.{State}
-use Rattle.document.specs.declared.Taken.{Taken}
+use Rattle.data.specs.declared.Kind.{Kind}
+use Rattle.data.specs.declared.Kind.the-variants as K
+use Rattle.data.specs.declared.Line.{Line}
+use Rattle.data.specs.declared.Line.the-variants as L
+use Rattle.data.specs.declared.Refusal.the-variants as No
+use Rattle.data.specs.declared.State.{State}
+use Rattle.data.specs.declared.Taken.{Taken}
 use Rattle.taking.specs.Ceilings.{UnderCeilings, unusedZero}
 
 -- ---- 6

@@ -1,15 +1,15 @@
 // One line of a routine text against what was read before it.
-use document::Kind;
-use document::Line;
-use document::Outcome;
-use document::Refusal;
-use document::State;
-use document::Taken;
-use document::Wire;
+use data::Kind;
+use data::Line;
+use data::Outcome;
+use data::Refusal;
+use data::State;
+use data::Taken;
+use data::Wire;
 ghost use mathlib.Core.Path.{_≡_};
 ghost use mathlib.Core.Bool.{true};
 ghost use Prim.Native.Nat.{_<_};
-ghost use Rattle.document.specs.Basics.{one};
+ghost use Rattle.data.specs.Basics.{one};
 ghost use Rattle.document.specs.Routine.{isRand, isPub};
 ghost use Rattle.document.specs.Reading.{taken, notTaken, made, marked, isNext, earlier, hasRoom, make, markOut, takeLine};
 ghost use Rattle.taking.specs.Ceilings.{UnderCeilings, unusedZero};

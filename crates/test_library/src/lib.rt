@@ -1,11 +1,12 @@
 // The README's example of use as a library: a caller that reads a text and asks whether it passes the plain judgement of order 2.
-use document::Verdict;
-use document::Which;
+use data::Verdict;
+use data::Which;
 ghost use mathlib.Core.Path.{_≡_};
-ghost use Rattle.test_library.specs.Passing.{isPass, passesPlain2};
+ghost use Rattle.document.specs.Judgements.{told};
+ghost use Rattle.test_library.specs.Passing.{passesPlain2};
 
 fn is_pass(verdict: Verdict) -> bool
-    ensures { λ r. ⌜ r ≡ isPass verdict ⌝ }
+    ensures { λ r. ⌜ r ≡ told verdict .passes ⌝ }
 {
     match verdict {
         Verdict::Pass(_) => true,

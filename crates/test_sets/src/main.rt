@@ -1,12 +1,12 @@
 // Routines from standard input, each ended by a zero byte: what the judgements and the set calls answer for each, and some additions, printed.
-use document::Judged;
-use document::Listing;
-use document::Outcome;
-use document::ProbeSet;
-use document::Shape;
-use document::Step;
-use document::Verdict;
-use document::Which;
+use data::Judged;
+use data::Listing;
+use data::Outcome;
+use data::ProbeSet;
+use data::Shape;
+use data::Step;
+use data::Verdict;
+use data::Which;
 use test_show::say;
 use test_show::say_number;
 use test_show::wide;

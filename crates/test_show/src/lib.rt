@@ -1,5 +1,5 @@
 // Words and numbers on standard output, for the programs that run the calls and compare what they answer.
-use document::Outcome;
+use data::Outcome;
 ghost use Prim.Native.Nat.{_+_, _≤_};
 ghost use lib.ListN.{length};
 

@@ -1,10 +1,10 @@
 // Texts from standard input, parted by a zero byte: what reading, writing and running answer for each, printed.
-use document::Listing;
-use document::Outcome;
-use document::Ran;
-use document::Shape;
-use document::Wire;
-use document::Written;
+use data::Listing;
+use data::Outcome;
+use data::Ran;
+use data::Shape;
+use data::Wire;
+use data::Written;
 use test_show::outcome_number;
 use test_show::say;
 use test_show::say_number;

@@ -2,12 +2,12 @@
 use mathlib.Core.List.{List, [], _++_}
 use Prim.Native.Nat.{ℕ, zero, suc, _+_, _-_, _*_}
 use Rattle.document.specs.Lines.{spelled}
-use Rattle.document.specs.declared.Outcome.the-variants.{Refused}
-use Rattle.document.specs.declared.Refusal.{Refusal}
-use Rattle.document.specs.declared.Shape.{Shape}
-use Rattle.document.specs.declared.Wire.{Wire}
-use Rattle.document.specs.declared.Word.the-variants as W
-use Rattle.document.specs.declared.Written.{Written}
+use Rattle.data.specs.declared.Outcome.the-variants.{Refused}
+use Rattle.data.specs.declared.Refusal.{Refusal}
+use Rattle.data.specs.declared.Shape.{Shape}
+use Rattle.data.specs.declared.Wire.{Wire}
+use Rattle.data.specs.declared.Word.the-variants as W
+use Rattle.data.specs.declared.Written.{Written}
 use Rattle.records.specs.Records.{recordAt}
 use Rattle.pieces.specs.Pieces.{line2, piece}
 use Rattle.pieces.specs.declared.Part.{Part}

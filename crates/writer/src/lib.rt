@@ -1,10 +1,10 @@
 // Writing a routine: its text, put into a lent buffer.
-use document::Listing;
-use document::Outcome;
-use document::Refusal;
-use document::Shape;
-use document::Wire;
-use document::Written;
+use data::Listing;
+use data::Outcome;
+use data::Refusal;
+use data::Shape;
+use data::Wire;
+use data::Written;
 use pieces::Part;
 ghost use mathlib.Core.Path.{_≡_};
 ghost use Prim.Native.Nat.{_+_, _*_, _≤_};

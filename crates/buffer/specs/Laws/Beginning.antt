@@ -1,9 +1,10 @@
 -- What a buffer that begins with some bytes determines.
 use mathlib.Core.Path.{_≡_, sym, ap, _∙_}
-use mathlib.Core.List.{List, _++_}
+use mathlib.Core.List.{List}
 use Prim.Native.Nat.{ℕ, _≤_}
 use native.Mathlib.Omega.{arith}
-use lib.ListN.{length, drop, length-append}
+use lib.ListN.{length, take, drop, length-append}
+use lib.Seq.{take-append-seam}
 use Rattle.buffer.specs.Begins.{Begins}
 
 -- two answers that it allows are equal, and so are the buffers
@@ -17,3 +18,8 @@ begins-within {v} {buffer} p =
     let e = ap length (p .left) in
     let l = length-append v (drop (length v) buffer) in
     omega (arith, p .said)
+
+-- and they are its first r
+pub begins-first : {v buffer : List ℕ} {r : ℕ} {after : List ℕ} → Begins v buffer r after → take r after ≡ v
+begins-first {v} {buffer} {r} {after} p =
+    ap (λ (k : ℕ). take k after) (p .said) ∙ ap (take (length v)) (p .left) ∙ take-append-seam v (drop (length v) buffer)

@@ -43,14 +43,14 @@ use denote.Triple.Table.{entered, cited}
 use denote.Triple.Walked.{says, Stays, stay-none, gave-slice, walkOf, goes-none, goes-gave-slice, Walks, ends-at, walked, walk-meets}
 use denote.Exit.{yes}
 use Rattle.document.specs.Lent.{RunsInto}
-use Rattle.document.specs.declared.Wire.{Wire}
-use Rattle.document.specs.declared.Shape.{Shape}
-use Rattle.document.specs.declared.Ran.{Ran}
-use Rattle.document.proofs.Wire as T
-use Rattle.document.proofs.Shape as S
-use Rattle.document.proofs.Shape.Laws as S′
-use Rattle.document.proofs.Ran as R
-use Rattle.document.proofs.Ran.Laws as R′
+use Rattle.data.specs.declared.Wire.{Wire}
+use Rattle.data.specs.declared.Shape.{Shape}
+use Rattle.data.specs.declared.Ran.{Ran}
+use Rattle.data.proofs.Wire as T
+use Rattle.data.proofs.Shape as S
+use Rattle.data.proofs.Shape.Laws as S′
+use Rattle.data.proofs.Ran as R
+use Rattle.data.proofs.Ran.Laws as R′
 use Rattle.copies.proofs.Arrays.{Records, records-val, records-tells, records-makes, records-typed}
 use Rattle.compare_lists.proofs.Lending.{τ, refTo, Beside, beside, whole, shares-list, room}
 use Rattle.lent.proofs.run as callee

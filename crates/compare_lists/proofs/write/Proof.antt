@@ -42,14 +42,14 @@ use denote.Triple.Table.{entered, cited}
 use denote.Triple.Walked.{says, Stays, stay-none, gave-slice, walkOf, goes-none, goes-gave-slice, Walks, ends-at, walked, walk-meets}
 use denote.Exit.{yes}
 use Rattle.document.specs.Lent.{WritesInto}
-use Rattle.document.specs.declared.Wire.{Wire}
-use Rattle.document.specs.declared.Shape.{Shape}
-use Rattle.document.specs.declared.Written.{Written}
-use Rattle.document.proofs.Wire as T
-use Rattle.document.proofs.Shape as S
-use Rattle.document.proofs.Shape.Laws as S′
-use Rattle.document.proofs.Written as R
-use Rattle.document.proofs.Written.Laws as R′
+use Rattle.data.specs.declared.Wire.{Wire}
+use Rattle.data.specs.declared.Shape.{Shape}
+use Rattle.data.specs.declared.Written.{Written}
+use Rattle.data.proofs.Wire as T
+use Rattle.data.proofs.Shape as S
+use Rattle.data.proofs.Shape.Laws as S′
+use Rattle.data.proofs.Written as R
+use Rattle.data.proofs.Written.Laws as R′
 use Rattle.copies.proofs.Arrays.{Records, records-val, records-tells, records-makes, records-typed}
 use Rattle.compare_lists.proofs.Lending.{τ, refTo, Beside, beside, whole, shares-list, room}
 use Rattle.lent.proofs.write as callee

@@ -2,7 +2,7 @@
 use mathlib.Core.Path.{sym, ap}
 use borrow.Author.Needs.{needs}
 use Rattle.cones.specs.Making.{gatherOf}
-use Rattle.document.specs.declared.Kind.{Kind}
+use Rattle.data.specs.declared.Kind.{Kind}
 use Rattle.cones.proofs.gathered.Statement.{statement}
 use Rattle.cones.proofs.gathered.Tie as tie
 

@@ -3,7 +3,7 @@ use mathlib.Core.Path.{sym, ap₂, _∙_}
 use borrow.Author.Needs.{needs}
 use borrow.Author.Tests.{eq-eqb, ne-eqb}
 use lib.Bits.{bitOr}
-use Rattle.document.specs.Laws.Tests.{cond-true, cond-false}
+use Rattle.data.specs.Laws.Tests.{cond-true, cond-false}
 use Rattle.cones.proofs.own_of_xor.Statement.{statement}
 use Rattle.cones.proofs.own_of_xor.Tie as tie
 

@@ -4,7 +4,7 @@ use mathlib.Core.Path.{sym, ap, _∙_}
 use Prim.Native.Nat.{_^_}
 use borrow.Author.Needs.{needs}
 use Rattle.document.specs.Routine.{isRand}
-use Rattle.document.specs.declared.Kind.{Kind}
+use Rattle.data.specs.declared.Kind.{Kind}
 use Rattle.cones.proofs.rand_bit.Statement.{statement}
 use Rattle.cones.proofs.rand_bit.Tie as tie
 

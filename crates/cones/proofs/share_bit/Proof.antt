@@ -3,7 +3,7 @@ use mathlib.Core.Path.{sym, _∙_}
 use Prim.Native.Nat.{_^_}
 use borrow.Author.Needs.{needs}
 use borrow.Author.Tests.{lt-ltb, le-ltb}
-use Rattle.document.specs.Laws.Tests.{cond-true, cond-false}
+use Rattle.data.specs.Laws.Tests.{cond-true, cond-false}
 use Rattle.cones.proofs.share_bit.Statement.{statement}
 use Rattle.cones.proofs.share_bit.Tie as tie
 

@@ -11,9 +11,9 @@ use lib.Bits.{bitAnd, bitOr, bitXor, and-shr, or-shr, xor-shr, and-mod, or-mod, 
 use lib.Count.{ones}
 use lib.Dec.{eqb, lit<}
 use lib.Pow.{pow-pos, pow-lt, pow-add, shl-exact, shl-shr, shr-shr, mod-pow-add}
-use Rattle.document.specs.Basics.{one, tally}
+use Rattle.data.specs.Basics.{one, tally}
 use Rattle.document.specs.Padding.{word}
-use Rattle.document.specs.Laws.Tests.{clash, true-eqb, wire-cases}
+use Rattle.data.specs.Laws.Tests.{clash, true-eqb, wire-cases}
 use Rattle.document.specs.Laws.Words.{ones-part}
 use Rattle.cones.specs.Bits.{minus}
 

@@ -3,7 +3,7 @@ use Prim.Native.Nat.{ℕ, _≤_}
 use native.Mathlib.Nat.{le-refl}
 use native.Mathlib.Omega.{arith}
 use Rattle.document.specs.Routine.{Routine, operands}
-use Rattle.document.specs.Laws.Tests.{Mem}
+use Rattle.data.specs.Laws.Tests.{Mem}
 use Rattle.document.specs.Laws.Marks.{Set, In}
 use Rattle.document.specs.Laws.Rule.{Live, probed, operand}
 use Rattle.document.specs.Laws.Live.{net, Earlier}

@@ -11,12 +11,12 @@ use lib.Dec.{ltb, leb}
 use lib.ListN.{length, getD, take, set}
 use lib.Seq.{getD-take, take-suc-set}
 use Rattle.document.specs.Routine.{Routine, size, wire, isRand, randsBefore, wellFormed, routineOf, recordsFit, operandsOf, operands}
-use Rattle.document.specs.Laws.Tests.{and-r, Mem}
+use Rattle.data.specs.Laws.Tests.{and-r, Mem}
 use Rattle.document.specs.Laws.Sound.{Sound, sound, first-leaf←, first-slots}
-use Rattle.document.specs.declared.Kind.{Kind}
-use Rattle.document.specs.declared.Kind.the-variants.{Share, Rand, Pub, Xor, And, Not}
-use Rattle.document.specs.declared.Wire.{Wire}
-use Rattle.document.specs.declared.Shape.{Shape}
+use Rattle.data.specs.declared.Kind.{Kind}
+use Rattle.data.specs.declared.Kind.the-variants.{Share, Rand, Pub, Xor, And, Not}
+use Rattle.data.specs.declared.Wire.{Wire}
+use Rattle.data.specs.declared.Shape.{Shape}
 use Rattle.records.specs.Records.{recordAt, countsOf}
 use Rattle.records.specs.Laws.Counts.{wire-is, rands-is}
 use Rattle.records.specs.Laws.Fitting.{fit-of, a-within, b-within}

@@ -7,7 +7,7 @@ use native.Mathlib.Nat.{le-refl}
 use native.Mathlib.Omega.{arith}
 use Rattle.document.specs.Routine.{Routine, wire, isRand, operands}
 use Rattle.document.specs.Padding.{pads}
-use Rattle.document.specs.Laws.Tests.{clash, out-of, bool-cases, wire-cases, Mem}
+use Rattle.data.specs.Laws.Tests.{clash, out-of, bool-cases, wire-cases, Mem}
 use Rattle.document.specs.Laws.Marks.{Set, In, Out, Sub}
 use Rattle.document.specs.Laws.Rule.{Live, probed, operand, Run, start, step, Final, monotone, keep, still-live}
 use Rattle.document.specs.Laws.Live.{net, pad-op-of, Earlier}

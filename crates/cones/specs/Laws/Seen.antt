@@ -6,7 +6,7 @@ use mathlib.Core.List.{List, [], _∷_, _++_}
 use Prim.Native.Nat.{ℕ, _*_, _<_}
 use lib.ListN.{getD}
 use Rattle.document.specs.Routine.{Routine, size, wire, isRand, randsBefore}
-use Rattle.document.specs.Laws.Tests.{clash, and-l, and-r, not-t, or-cases, or-l, or-r, Mem}
+use Rattle.data.specs.Laws.Tests.{clash, and-l, and-r, not-t, or-cases, or-l, or-r, Mem}
 use Rattle.document.specs.Laws.Live.{Earlier, Within}
 use Rattle.cones.specs.Laws.Cone.{Cone}
 use Rattle.cones.specs.Bits.{minus}

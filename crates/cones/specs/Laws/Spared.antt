@@ -9,18 +9,18 @@ use native.Mathlib.Omega.{arith}
 use lib.Count.{ones}
 use lib.Dec.{eqb, ltb}
 use lib.ListN.{length}
-use Rattle.document.specs.Basics.{tally, some, keep, at}
+use Rattle.data.specs.Basics.{tally, some, keep, at}
 use Rattle.document.specs.Routine.{Routine, size, wire, isRand}
 use Rattle.document.specs.Padding.{probed as probedMarks, firstLeaves, lastLeaves, liveAtEnd, pads, padsOf, bitsOf, neededOf}
 use Rattle.document.specs.Judgements.{Judgement, plain, strong, inner, isOpen}
-use Rattle.document.specs.Laws.Tests.{clash, out-of, bool-cases, eqb-true, true-eqb, ltb-true, ltb-false, wire-cases, some-none, none-some, tally-ext}
-use Rattle.document.specs.Laws.Tests.{tally-mono, Mem}
+use Rattle.data.specs.Laws.Tests.{clash, out-of, bool-cases, eqb-true, true-eqb, ltb-true, ltb-false, wire-cases, some-none, none-some, tally-ext}
+use Rattle.data.specs.Laws.Tests.{tally-mono, Mem}
 use Rattle.document.specs.Laws.Rule.{Live, grows}
 use Rattle.document.specs.Laws.Live.{net}
 use Rattle.document.specs.Laws.Sound.{Sound, first-leaf←}
 use Rattle.document.specs.Laws.Needed.{probed→, probed←, asc-low, ended-at, needed-live, needed-tally}
-use Rattle.document.specs.ProbeSets.{Asc}
-use Rattle.document.specs.declared.Kind.{Kind}
+use Rattle.data.specs.ProbeSets.{Asc}
+use Rattle.data.specs.declared.Kind.{Kind}
 use Rattle.cones.specs.Laws.Cone.{live-cone}
 use Rattle.cones.specs.Laws.Own.{Own, itself, above, Without, own-spared}
 use Rattle.cones.specs.Laws.Bits.{has, has-some, ones-has}

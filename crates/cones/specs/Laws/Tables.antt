@@ -12,10 +12,10 @@ use lib.ListN.{length, getD, length-append, List·getD-append}
 use lib.Seq.{getD-at}
 use Rattle.document.specs.Routine.{Routine, size, wire, isRand, randsBefore, operandsOf, operands}
 use Rattle.document.specs.Padding.{padsOf, pads}
-use Rattle.document.specs.Laws.Tests.{clash, bool-cases, cond-true, and-l, and-r, not-t, or-cases, or-l, or-r, true-ltb, wire-cases, below, Mem}
+use Rattle.data.specs.Laws.Tests.{clash, bool-cases, cond-true, and-l, and-r, not-t, or-cases, or-l, or-r, true-ltb, wire-cases, below, Mem}
 use Rattle.document.specs.Laws.Live.{Earlier, Within}
-use Rattle.document.specs.declared.Kind.{Kind}
-use Rattle.document.specs.declared.Kind.the-variants.{Share, Rand, Pub, Xor, And, Not}
+use Rattle.data.specs.declared.Kind.{Kind}
+use Rattle.data.specs.declared.Kind.the-variants.{Share, Rand, Pub, Xor, And, Not}
 use Rattle.cones.specs.Laws.Cone.{Cone, here, down}
 use Rattle.cones.specs.Laws.Own.{Own, itself, above}
 use Rattle.cones.specs.Bits.{minus}

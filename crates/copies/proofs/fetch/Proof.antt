@@ -51,20 +51,20 @@ use denote.Triple.Walked.{says, needs, Stays, stay-none-slice, stay-none, walkOf
 use denote.Exit.{yes}
 use Rattle.document.specs.Routine.{blank}
 use Rattle.document.specs.Reading.{blanks}
-use Rattle.document.specs.declared.Wire.{Wire}
+use Rattle.data.specs.declared.Wire.{Wire}
 use Rattle.copies.specs.Laws.Blanks.{length-blanks}
 use Rattle.copies.proofs.Lists.{mix, mix-more, holds, fails}
-use Rattle.document.proofs.Wire as T
+use Rattle.data.proofs.Wire as T
 use Rattle.copies.proofs.Arrays.{Records, records-val, records-tells, records-makes, records-typed}
-use Rattle.document.proofs.Wire.Laws as T′
+use Rattle.data.proofs.Wire.Laws as T′
 use Rattle.copies.proofs.with_record as with′
 use Rattle.copies.proofs.with_record.Symbol as with-def
 use Rattle.copies.proofs.with_record.Symbol.{name as #copies·with-record}
 use Rattle.copies.proofs.with_record.Met as with-thm
-use Rattle.document.proofs.blank_wires as none
-use Rattle.document.proofs.blank_wires.Symbol as none-def
-use Rattle.document.proofs.blank_wires.Symbol.{name as #blank-wires}
-use Rattle.document.proofs.blank_wires.Met as none-thm
+use Rattle.listing.proofs.blank_wires as none
+use Rattle.listing.proofs.blank_wires.Symbol as none-def
+use Rattle.listing.proofs.blank_wires.Symbol.{name as #blank-wires}
+use Rattle.listing.proofs.blank_wires.Met as none-thm
 use Rattle.copies.proofs.fetch.Key.{name as #copies·fetch}
 use Rattle.copies.proofs.fetch as fetch
 use Rattle.copies.proofs.fetch.Statement as stated
@@ -331,4 +331,4 @@ fetch-spec 𝓤 H 𝓜 𝓖 𝓡 =
     (tables 𝓤 H 𝓜 𝓡 code.env .C) (tables 𝓤 H 𝓜 𝓡 code.env .Λ) #copies·fetch code.function (code.unfolded 𝓤 H 𝓜 𝓡)
     (fetch-meets 𝓤 H (𝓖 .A) (givenOf 𝓤 H 𝓜 𝓖) (𝓜 .mem) (𝓡 .run) (tablesOf 𝓤 H 𝓜 (tables 𝓤 H 𝓜 𝓡 code.env))
     (cited 𝓤 H (With 𝓤 H (𝓖 .A) (𝓜 .mem) (𝓡 .run)) 𝓜 𝓡 code.env #copies·with-record with-def.routine code.calls-copies·with-record (with-thm.met 𝓤 H 𝓜 𝓖 𝓡))
-    (cited 𝓤 H (Blanks 𝓤 H (𝓖 .A) (𝓜 .mem) (𝓡 .run)) 𝓜 𝓡 code.env #blank-wires none-def.routine code.calls-document·blank-wires (none-thm.met 𝓤 H 𝓜 𝓖 𝓡)))
+    (cited 𝓤 H (Blanks 𝓤 H (𝓖 .A) (𝓜 .mem) (𝓡 .run)) 𝓜 𝓡 code.env #blank-wires none-def.routine code.calls-listing·blank-wires (none-thm.met 𝓤 H 𝓜 𝓖 𝓡)))

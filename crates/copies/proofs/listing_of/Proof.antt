@@ -39,14 +39,14 @@ use denote.Triple.Table.{entered, cited}
 use denote.Triple.Walked.{says, Stays, stay-none-slice, stay-none, walkOf, goes-none-slice, goes-none, Walks, ends-at, walked, walk-meets}
 use denote.Exit.{yes}
 use Rattle.copies.specs.First.{fetched, clipped, firstOf, listingOf}
-use Rattle.document.specs.declared.Wire.{Wire}
-use Rattle.document.specs.declared.Shape.{Shape}
-use Rattle.document.specs.declared.Listing.{Listing}
-use Rattle.document.proofs.Wire as T
-use Rattle.document.proofs.Shape as S
-use Rattle.document.proofs.Shape.Laws as S′
-use Rattle.document.proofs.Listing as L
-use Rattle.document.proofs.Listing.Laws as L′
+use Rattle.data.specs.declared.Wire.{Wire}
+use Rattle.data.specs.declared.Shape.{Shape}
+use Rattle.data.specs.declared.Listing.{Listing}
+use Rattle.data.proofs.Wire as T
+use Rattle.data.proofs.Shape as S
+use Rattle.data.proofs.Shape.Laws as S′
+use Rattle.data.proofs.Listing as L
+use Rattle.data.proofs.Listing.Laws as L′
 use Rattle.copies.proofs.Arrays.{Records, records-makes, records-typed}
 use Rattle.copies.proofs.clip as clip
 use Rattle.copies.proofs.clip.Symbol as clip-def

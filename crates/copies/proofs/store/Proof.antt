@@ -51,11 +51,11 @@ use denote.Triple.Table.{entered, cited}
 use denote.Triple.Walked.{says, needs, Stays, stay-slice, stay-none, walkOf, goes-slice, goes-none, Walks, ends-at, walked, walk-meets}
 use denote.Exit.{yes}
 use Rattle.document.specs.Routine.{blank}
-use Rattle.document.specs.declared.Wire.{Wire}
+use Rattle.data.specs.declared.Wire.{Wire}
 use Rattle.copies.proofs.Lists.{mix, mix-more, length-mix, holds, fails}
-use Rattle.document.proofs.Wire as T
+use Rattle.data.proofs.Wire as T
 use Rattle.copies.proofs.Arrays.{Records, records-val, records-tells, records-makes, records-typed}
-use Rattle.document.proofs.Wire.Laws as T′
+use Rattle.data.proofs.Wire.Laws as T′
 use Rattle.copies.proofs.record_at as pick-at
 use Rattle.copies.proofs.record_at.Symbol as pick-def
 use Rattle.copies.proofs.record_at.Symbol.{name as #copies·record-at}

@@ -1,22 +1,21 @@
 -- A step keeps the number of random words that give each observation; so the live shares and the publics fix these numbers.
 use mathlib.Core.Path.{_≡_, refl, sym, ap, _∙_, subst, fun-ext}
-use mathlib.Core.Bool.{Bool, true, false}
 use mathlib.Core.Logic.{_≢_}
-use mathlib.Core.List.{List, [], _∷_}
-use Prim.Native.Nat.{ℕ, zero, suc, _≤_, _<_}
+use mathlib.Core.List.{List, []}
+use Prim.Native.Nat.{ℕ, _<_}
 use native.Mathlib.Omega.{arith}
 use lib.ListN.{length, getD, set}
 use lib.Seq.{getD-set-same, getD-set-other}
 use Rattle.document.specs.Routine.{Routine, wire, operands}
 use Rattle.document.specs.Running.{Value, valueAt}
-use Rattle.document.specs.Laws.Tests.{clash, out-of, bool-cases, wire-cases, below, Mem}
+use Rattle.data.specs.Laws.Tests.{clash, out-of, bool-cases, wire-cases, below, Mem}
 use Rattle.document.specs.Laws.Marks.{Set, In, Out, add, add-cases, add-in, add-self}
 use Rattle.document.specs.Laws.Rule.{Live, probed, operand, Step, Run, start, step}
 use Rattle.document.specs.Laws.Live.{net, pad-op-of, Earlier}
 use Rattle.document.specs.Laws.Sums.{upd, upd-same, upd-other, words, words-ext, slide}
 use Rattle.document.specs.Starts.{Small}
 use Rattle.document.specs.Laws.Values.{Lawful, inner-ext, inner-share, inner-perm, value, value-ok, value-leaf, value-inner}
-use Rattle.document.specs.declared.Kind.the-variants.{Share}
+use Rattle.data.specs.declared.Kind.the-variants.{Share}
 
 -- the live leaves read slots of their own, below m
 pub record Slots (R : Routine) (P L : Set) (σ : ℕ → ℕ) (m : ℕ) : Type 0 where

@@ -1,28 +1,29 @@
 -- A judgement goes through its sets in order (5.19, 5.20): it passes exactly when none is open, and otherwise stops at the first open one.
-use mathlib.Core.Path.{_≡_, refl, sym, ap, ap₂, _∙_, subst}
-use mathlib.Core.Bool.{Bool, true, false, not, _&&_, cond}
+use mathlib.Core.Path.{_≡_, refl, sym, ap, _∙_, subst}
+use mathlib.Core.Bool.{Bool, true, false, cond}
 use mathlib.Core.Logic.{_⊎_, inl, inr, _↔_}
 use mathlib.Core.List.{List, [], _∷_, _++_}
-use Prim.Native.Nat.{ℕ, zero, suc, _+_, _≤_, _<_, zero-le}
+use Prim.Native.Nat.{ℕ, suc, _+_, _≤_, _<_}
 use native.Mathlib.Omega.{arith}
 use lib.Dec.{ltb, leb}
 use lib.ListN.{length}
-use Rattle.document.specs.Basics.{some}
-use Rattle.document.specs.Routine.{Routine, size, wellFormed}
-use Rattle.document.specs.ProbeSets.{setOf}
+use Rattle.data.specs.Basics.{Among}
+use Rattle.document.specs.Routine.{Routine, size, wellFormed, routineOf}
+use Rattle.data.specs.ProbeSets.{setOf}
 use Rattle.document.specs.Padding.{neededOf}
-use Rattle.document.specs.Judgements.{Judgement, plain, isOpen, setsInOrder, setsJudged, passed, opened, firstOpen, judgement}
-use Rattle.document.specs.Judgements.{orderFits, judgedNot, judged, Among, FirstOpen, NoneOpen}
-use Rattle.document.specs.Laws.Tests.{clash, bool-cases, cond-true, cond-false, ltb-true, ltb-false, true-ltb, out-of}
-use Rattle.document.specs.Laws.Tests.{some-none, none-some, leb-true, and-l, and-r}
+use Rattle.document.specs.Judgements.{Judgement, plain, isOpen, setsJudged, passed, opened, firstOpen, judgement}
+use Rattle.document.specs.Judgements.{orderFits, judgedNot, judged, FirstOpen, NoneOpen}
+use Rattle.document.specs.Lent.{lent, lentJudged}
+use Rattle.data.specs.Laws.Tests.{clash, cond-true, cond-false, ltb-true, ltb-false, out-of}
+use Rattle.data.specs.Laws.Tests.{some-none, none-some, leb-true, and-l, and-r}
 use Rattle.document.specs.Laws.Sets.{sets→, sets←}
 use Rattle.document.specs.Laws.Needed.{Within-order}
-use Rattle.document.specs.declared.Refusal.{Refusal}
-use Rattle.document.specs.declared.Refusal.the-variants as No
-use Rattle.document.specs.declared.Verdict.{Verdict}
-use Rattle.document.specs.declared.Verdict.the-variants as Says
-use Rattle.document.specs.declared.Judged.{Judged}
-use Rattle.document.specs.declared.ProbeSet.{ProbeSet}
+use Rattle.data.specs.declared.Refusal.{Refusal}
+use Rattle.data.specs.declared.Refusal.the-variants as No
+use Rattle.data.specs.declared.Verdict.the-variants as Says
+use Rattle.data.specs.declared.Wire.{Wire}
+use Rattle.data.specs.declared.Shape.{Shape}
+use Rattle.data.specs.declared.Judged.{Judged}
 
 -- the answer has the first open set and its place, after k sets
 pub record Opened (opens : List ℕ → Bool) (k : ℕ) (ss : List (List ℕ)) (answer : Judged) : Type 0 where
@@ -147,6 +148,17 @@ passed-has J R t c e = go (wellFormed R) refl (orderFits R t) refl e
     go true g true o e = record { good = g; order = o; says = e }
     go true g false o e = refused-not No.Order c e
     go false g b o e = refused-not No.Records c e
+
+-- over a lent list there are the records too
+pub lent-passed : (J : Judgement) (σ : Shape) (ws : List Wire) (t c : ℕ) → lentJudged J σ ws t .verdict ≡ Says.Pass c
+    → (leb (σ .n) (length ws) ≡ true) × (judged J (routineOf σ ws) t .verdict ≡ Says.Pass c)
+unfolding lentJudged lent
+lent-passed J σ ws t c e = go (leb (σ .n) (length ws)) e
+  where
+    go : (a : Bool) → cond a (judged J (routineOf σ ws) t) (judgedNot No.Records) .verdict ≡ Says.Pass c
+        → (a ≡ true) × (judged J (routineOf σ ws) t .verdict ≡ Says.Pass c)
+    go true e = (refl, e)
+    go false e = refused-not No.Records c e
 
 pub judged-is : (J : Judgement) (R : Routine) (t : ℕ) → wellFormed R ≡ true → orderFits R t ≡ true → judged J R t ≡ judgement J R t
 unfolding judged

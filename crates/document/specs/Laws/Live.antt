@@ -1,21 +1,21 @@
 -- The live marks that are computed are the live wires of the rule.
-use mathlib.Core.Path.{_≡_, refl, sym, ap, _∙_, subst}
+use mathlib.Core.Path.{_≡_, refl, ap, subst}
 use mathlib.Core.Bool.{Bool, true, false, not, _&&_, cond}
-use mathlib.Core.Logic.{_⊎_, inl, inr, _≢_, _↔_}
-use mathlib.Core.List.{List, [], _∷_}
+use mathlib.Core.Logic.{inl, inr, _↔_}
+use mathlib.Core.List.{[], _∷_}
 use Prim.Native.Nat.{ℕ, zero, suc, _≤_, _<_, min, max}
 use native.Mathlib.Nat.{not-suc-le-zero, le-refl}
 use native.Mathlib.Omega.{arith}
 use lib.Dec.{eqb}
 use lib.ListN.{length}
-use Rattle.document.specs.Basics.{Marks, at, mark, elem}
+use Rattle.data.specs.Basics.{Marks, at, mark}
 use Rattle.document.specs.Routine.{Routine, size, wire, operandsOf, operands}
 use Rattle.document.specs.Padding.{liveDown, live, padsOf, pads}
-use Rattle.document.specs.Laws.Tests.{clash, and-l, and-r, and-i, not-t, cond-cases, wire-cases, Mem}
+use Rattle.data.specs.Laws.Tests.{clash, and-l, and-r, and-i, not-t, cond-cases, wire-cases, Mem}
 use Rattle.document.specs.Laws.Marks.{Set, In, Out, mark-length, mark-keeps, mark-cases, mark-marks}
 use Rattle.document.specs.Laws.Rule.{Net, Live, probed, operand}
-use Rattle.document.specs.declared.Kind.{Kind}
-use Rattle.document.specs.declared.Kind.the-variants.{Share, Rand, Pub, Xor, And, Not}
+use Rattle.data.specs.declared.Kind.{Kind}
+use Rattle.data.specs.declared.Kind.the-variants.{Share, Rand, Pub, Xor, And, Not}
 
 -- what a wire can be padded by is an operand of it
 pads-operands : (k : Kind) (a b r : ℕ) → Mem r (padsOf k a b) → Mem r (operandsOf k a b)

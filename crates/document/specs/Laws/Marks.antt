@@ -1,15 +1,15 @@
 -- Laws of marks: sets of wires as tests, a mark more, the marks of a list of wires.
-use mathlib.Core.Path.{_≡_, refl, sym, ap, _∙_, subst, fun-ext}
+use mathlib.Core.Path.{_≡_, refl, sym, ap, _∙_, fun-ext}
 use mathlib.Core.Bool.{Bool, true, false, _||_}
-use mathlib.Core.Logic.{_⊎_, inl, inr, _≢_}
+use mathlib.Core.Logic.{inl, inr}
 use mathlib.Core.List.{List, [], _∷_}
-use Prim.Native.Nat.{ℕ, zero, suc, _≤_, _<_}
+use Prim.Native.Nat.{ℕ, zero, suc, _<_}
 use native.Mathlib.Omega.{arith}
 use lib.Dec.{eqb}
-use lib.ListN.{length, getD, set, length-set, replicate}
+use lib.ListN.{length, set, length-set, replicate}
 use lib.Seq.{getD-set-same, getD-set-other}
-use Rattle.document.specs.Basics.{Marks, at, mark}
-use Rattle.document.specs.Laws.Tests.{clash, out-of, or-cases, or-l, or-r, eqb-true, true-eqb, wire-cases, Mem}
+use Rattle.data.specs.Basics.{Marks, at, mark}
+use Rattle.data.specs.Laws.Tests.{out-of, or-cases, or-l, or-r, eqb-true, true-eqb, wire-cases, Mem}
 
 -- ---- sets of wires
 

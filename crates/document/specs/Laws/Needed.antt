@@ -1,23 +1,23 @@
 -- Needed shares: the run to its end, more probes need no less, and a judgement that bounds by the order passes below where it passes.
-use mathlib.Core.Path.{_≡_, refl, sym, ap, ap₂, _∙_, subst}
-use mathlib.Core.Bool.{Bool, true, false, not, _&&_, cond}
-use mathlib.Core.Logic.{_⊎_, inl, inr, _≢_, _↔_}
+use mathlib.Core.Path.{_≡_, refl, ap, _∙_, subst}
+use mathlib.Core.Bool.{Bool, true, false, cond}
+use mathlib.Core.Logic.{inl, inr, _≢_, _↔_}
 use mathlib.Core.List.{List, [], _∷_}
-use Prim.Native.Nat.{ℕ, zero, suc, _+_, _*_, _-_, _≤_, _<_, zero-le}
+use Prim.Native.Nat.{ℕ, suc, _+_, _*_, _-_, _≤_, _<_, zero-le}
 use native.Mathlib.Nat.{le-refl, mul-le-mul-right}
 use native.Mathlib.Decide.{decLe, le-ind}
 use native.Mathlib.Omega.{arith}
 use lib.Count.{ones}
 use lib.Dec.{ltb}
 use lib.ListN.{length, length-replicate}
-use Rattle.document.specs.Basics.{tally, Marks, at, mark}
+use Rattle.data.specs.Basics.{tally, at}
 use Rattle.document.specs.Routine.{Routine, size}
-use Rattle.document.specs.ProbeSets.{insert, Asc}
+use Rattle.data.specs.ProbeSets.{insert, Asc}
 use Rattle.document.specs.Padding.{unmarked, probed as probedMarks, firstLeaves, live, stepsFrom, steps, lastLeaves, liveAtEnd}
 use Rattle.document.specs.Padding.{word, neededShares, bitsOf, neededOf}
-use Rattle.document.specs.Laws.Tests.{clash, ltb-true, ltb-false, tally-more, tally-spare, Mem}
-use Rattle.document.specs.Laws.Marks.{In, Out, mark-length, mark-cases, mark-marks, none-marked}
-use Rattle.document.specs.Laws.Rule.{Live, probed, Run, start, Final, monotone}
+use Rattle.data.specs.Laws.Tests.{clash, ltb-true, ltb-false, tally-more, tally-spare, Mem}
+use Rattle.document.specs.Laws.Marks.{In, mark-length, mark-cases, mark-marks, none-marked}
+use Rattle.document.specs.Laws.Rule.{Live, probed, monotone}
 use Rattle.document.specs.Laws.Live.{net, live-is}
 use Rattle.document.specs.Laws.Steps.{Ended, ended, left-most}
 use Rattle.document.specs.Laws.Sound.{Sound, first-length}
@@ -94,8 +94,7 @@ module _ (R : Routine) (so : Sound R) where
       let l = probed-length ps in
       let m = first-length R in
       let f = so .few in
-      ended R (so .earlier) (so .within) (probedMarks ps) (omega arith) (firstLeaves R) (size R) (firstLeaves R) (omega arith)
-      (left-most R (firstLeaves R)) start
+      ended R (so .earlier) (so .within) (probedMarks ps) (omega arith) (size R) (firstLeaves R) (omega arith) (left-most R (firstLeaves R))
 
   pub needed-live : (ps : List ℕ) (v : ℕ) → In (at (liveAtEnd R ps)) v ↔ Live (net R) (at (probedMarks ps)) (at (lastLeaves R ps)) v
   unfolding liveAtEnd

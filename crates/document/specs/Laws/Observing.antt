@@ -1,29 +1,27 @@
 -- The pattern counts as sums over all starts, and that they do not depend on the secrets where each secret has an unneeded share.
-use mathlib.Core.Path.{_≡_, refl, sym, ap, ap₂, _∙_, subst}
-use mathlib.Core.Bool.{Bool, true, false, not, _&&_, cond}
-use mathlib.Core.Logic.{_⊎_, inl, inr, _≢_}
+use mathlib.Core.Path.{_≡_, refl, sym, ap, ap₂, _∙_}
+use mathlib.Core.Bool.{Bool, true, false, cond}
+use mathlib.Core.Logic.{inl, inr}
 use mathlib.Core.List.{List, [], _∷_, _++_, map, flatMap}
-use Prim.Native.Nat.{ℕ, zero, suc, _+_, _*_, _≤_, _<_}
+use Prim.Native.Nat.{ℕ, zero, suc, _+_, _*_, _<_}
 use native.Mathlib.Nat.{not-suc-le-zero}
 use native.Mathlib.Omega.{arith}
 use lib.ListN.{length, getD, length-append, List·getD-append}
 use lib.Seq.{getD-at}
-use Rattle.document.specs.Basics.{one, tally, keep, upTo, same, at}
+use Rattle.data.specs.Basics.{one, keep, upTo, same, at}
 use Rattle.document.specs.Routine.{Routine, size, wire, isRand, randsBefore, pubsBefore}
 use Rattle.document.specs.Running.{Value, gives, valueAt, firstValues, running}
 use Rattle.document.specs.Padding.{probed as probedMarks, firstLeaves, lastLeaves, liveAtEnd, neededOf}
-use Rattle.document.specs.Starts.{allWords, xorOf, splits, Start, starts, observed, patternCount, Small}
-use Rattle.document.specs.Laws.Tests.{clash, bool-cases, wire-cases, tally-spare, Mem}
-use Rattle.document.specs.Laws.Marks.{Set, In, Out}
-use Rattle.document.specs.Laws.Rule.{Live, Run}
-use Rattle.document.specs.Laws.Live.{net, Earlier}
+use Rattle.document.specs.Starts.{allWords, splits, Start, starts, observed, patternCount, Small}
+use Rattle.data.specs.Laws.Tests.{clash, bool-cases, wire-cases, tally-spare, Mem}
+use Rattle.document.specs.Laws.Marks.{Set}
 use Rattle.document.specs.Laws.Sums.{total, total-ext, words, words-ext}
 use Rattle.document.specs.Laws.Values.{Lawful, inner-ext, value, value-leaf, value-inner}
 use Rattle.document.specs.Laws.Splitting.{splitsAt, splitsTo, startSum, secret-free}
 use Rattle.document.specs.Laws.Sound.{Sound, first-leaf→, first-leaf←, first-slots}
 use Rattle.document.specs.Laws.Needed.{probed←, ended-at, needed-live, needed-tally}
-use Rattle.document.specs.declared.Kind.{Kind}
-use Rattle.document.specs.declared.Kind.the-variants.{Share, Rand, Pub, Xor, And, Not}
+use Rattle.data.specs.declared.Kind.{Kind}
+use Rattle.data.specs.declared.Kind.the-variants.{Share, Rand, Pub, Xor, And, Not}
 
 -- ---- sums over lists
 
@@ -93,6 +91,10 @@ sum-words K (suc m) f =
     ∙ sum-ext _ (λ v. words (K .many) m (λ xs. f (v ∷ xs))) (upTo (K .many) 0) (λ v. sum-map f (λ xs. v ∷ xs) (allWords K m) ∙ sum-words K m (λ xs. f (v ∷ xs)))
     ∙ sum-upTo (K .many) 0 (λ v. words (K .many) m (λ xs. f (v ∷ xs)))
     ∙ total-ext (K .many) _ _ (λ v _. ap (λ (u : ℕ). words (K .many) m (λ xs. f (u ∷ xs))) (omega arith))
+
+-- how many words pass a test
+pub kept-words : (K : Value) (m : ℕ) (h : List ℕ → Bool) → length (keep h (allWords K m)) ≡ words (K .many) m (λ xs. one (h xs))
+kept-words K m h = kept-sum h (allWords K m) ∙ sum-words K m (λ xs. one (h xs))
 
 -- ---- running is the value of each wire where the randoms are the leaves
 

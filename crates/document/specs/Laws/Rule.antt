@@ -1,8 +1,8 @@
 -- The padding rule over any operands, its steps in any order: adding probes never removes a live wire, and every order ends with the same live wires.
-use mathlib.Core.Path.{_≡_, refl, sym, ap, _∙_, subst}
+use mathlib.Core.Path.{_≡_, subst}
 use mathlib.Core.Logic.{_↔_}
 use Prim.Native.Nat.{ℕ}
-use Rattle.document.specs.Laws.Tests.{clash, out-of, bool-cases}
+use Rattle.data.specs.Laws.Tests.{clash, out-of, bool-cases}
 use Rattle.document.specs.Laws.Marks.{Set, In, Out, Sub, add, add-cases, add-in}
 
 -- what a routine is to the rule: v is an operand of u; w can be padded by its operand r

@@ -1,8 +1,7 @@
 -- 9.14 and 9.15 over any lawful kind of value and any way to observe: a set of at most t wires shows nothing of the secrets.
 use mathlib.Core.Path.{_≡_}
-use mathlib.Core.Logic.{inl, inr}
 use mathlib.Core.List.{List, [], _∷_}
-use Prim.Native.Nat.{ℕ, _*_, _≤_, _<_, zero-le}
+use Prim.Native.Nat.{ℕ, _≤_, _<_, zero-le}
 use native.Mathlib.Nat.{mul-le-mul-right}
 use native.Mathlib.Omega.{arith}
 use lib.ListN.{length}
@@ -10,11 +9,10 @@ use Rattle.document.specs.Routine.{Routine, size}
 use Rattle.document.specs.Running.{Value}
 use Rattle.document.specs.Starts.{patternCount, Small}
 use Rattle.document.specs.Padding.{neededOf}
-use Rattle.document.specs.Laws.Tests.{Mem}
 use Rattle.document.specs.Laws.Values.{Lawful}
 use Rattle.document.specs.Laws.Sound.{Sound}
 use Rattle.document.specs.Laws.Needed.{asc-low, Watch, Within-order}
-use Rattle.document.specs.ProbeSets.{Asc}
+use Rattle.data.specs.ProbeSets.{Asc}
 use Rattle.document.specs.Laws.Observing.{spare-counts}
 use Rattle.document.specs.Laws.Orders.{needed-more}
 

@@ -1,17 +1,18 @@
 -- The sets in order (5.11): all sets of 1 to k wires, each once, a smaller set first, and of one size the lower one first.
 use mathlib.Core.Path.{_≡_, refl, sym, ap, _∙_, subst}
-use mathlib.Core.Bool.{Bool, true, false, _&&_}
-use mathlib.Core.Logic.{_⊎_, inl, inr, _↔_}
+use mathlib.Core.Bool.{true}
+use mathlib.Core.Logic.{_⊎_, inl, inr}
 use mathlib.Core.List.{List, [], _∷_, _++_, map}
-use Prim.Native.Nat.{ℕ, zero, suc, _+_, _≤_, _<_, zero-le}
-use native.Mathlib.Nat.{le-refl}
+use Prim.Native.Nat.{ℕ, zero, suc, _+_, _*_, _^_, _≤_, _<_, zero-le}
+use native.Mathlib.Nat.{le-refl, pow-zero, pow-suc, mul-le-mul-right, pow-le-pow-left, pow-le-pow-right}
 use native.Mathlib.Omega.{arith}
 use lib.Dec.{ltb}
-use lib.ListN.{length}
-use Rattle.document.specs.Basics.{each}
-use Rattle.document.specs.ProbeSets.{ascending, WireSet, Asc}
-use Rattle.document.specs.Judgements.{setsOf, setsInOrder, Among, Before, Ordered, Lower}
-use Rattle.document.specs.Laws.Tests.{and-l, and-r, and-i, ltb-true, true-ltb, wire-cases}
+use lib.ListN.{length, length-append, length-map}
+use Rattle.data.specs.Basics.{each, Among}
+use Rattle.data.specs.ProbeSets.{ascending, WireSet, Asc}
+use Rattle.document.specs.Judgements.{setsOf, setsInOrder, Before, Ordered, Lower}
+use Rattle.data.specs.Laws.Tests.{and-l, and-r, and-i, ltb-true, true-ltb, wire-cases}
+use Rattle.document.specs.Laws.Lists.{among-l, among-r, among-split, among-map, among-unmap}
 
 -- ---- sets by their tests
 
@@ -45,32 +46,6 @@ wires-of lo n (p ∷ ps) a = and-i (ltb p n) (each (λ w. ltb w n) ps) (true-ltb
 pub wire-set : (n : ℕ) (ps : List ℕ) → Asc 0 n ps → WireSet n ps
 wire-set n ps a = record { ascends = ascends-of 0 n ps a; wires = wires-of 0 n ps a }
 
--- ---- a list holds a set
-
-pub among-l : (s : List ℕ) (xs ys : List (List ℕ)) → Among s xs → Among s (xs ++ ys)
-among-l s [] ys h = absurd h
-among-l s (x ∷ xs) ys (inl e) = inl e
-among-l s (x ∷ xs) ys (inr h) = inr (among-l s xs ys h)
-
-pub among-r : (s : List ℕ) (xs ys : List (List ℕ)) → Among s ys → Among s (xs ++ ys)
-among-r s [] ys h = h
-among-r s (x ∷ xs) ys h = inr (among-r s xs ys h)
-
-among-split : (s : List ℕ) (xs ys : List (List ℕ)) → Among s (xs ++ ys) → Among s xs ⊎ Among s ys
-among-split s [] ys h = inr h
-among-split s (x ∷ xs) ys (inl e) = inl (inl e)
-among-split s (x ∷ xs) ys (inr h) = elim (among-split s xs ys h) [ inl k ↦ inl (inr k) | inr k ↦ inr k ]
-
-among-map : (p : ℕ) (s : List ℕ) (xs : List (List ℕ)) → Among s xs → Among (p ∷ s) (map (λ r. p ∷ r) xs)
-among-map p s [] h = absurd h
-among-map p s (x ∷ xs) (inl e) = inl (ap {B = List ℕ} (λ r. p ∷ r) e)
-among-map p s (x ∷ xs) (inr h) = inr (among-map p s xs h)
-
-among-unmap : (p : ℕ) (s : List ℕ) (xs : List (List ℕ)) → Among s (map (λ r. p ∷ r) xs) → (r : List ℕ) × (s ≡ p ∷ r) × Among r xs
-among-unmap p s [] h = absurd h
-among-unmap p s (x ∷ xs) (inl e) = (x, e, inl refl)
-among-unmap p s (x ∷ xs) (inr h) = let t = among-unmap p s xs h in (t .0, t .1, inr (t .2))
-
 -- ---- the list holds just the sets of 1 to k wires
 
 sets-of← : (m lo n : ℕ) (ps : List ℕ) → n ≡ lo + m → Asc lo n ps → Among ps (setsOf (length ps) m lo)
@@ -80,7 +55,7 @@ sets-of← zero lo n (p ∷ ps) q a = let x = a .0 in let y = a .1 in absurd (om
 sets-of← (suc m) lo n (p ∷ ps) q a = wire-cases p lo
     (λ e. among-l (p ∷ ps) (map (λ s. lo ∷ s) (setsOf (length ps) m (suc lo))) (setsOf (suc (length ps)) m (suc lo))
     (subst (λ (q : ℕ). Among (q ∷ ps) (map (λ s. lo ∷ s) (setsOf (length ps) m (suc lo)))) (sym e)
-    (among-map lo ps (setsOf (length ps) m (suc lo)) (sets-of← m (suc lo) n ps (omega arith) (subst (λ (k : ℕ). Asc (suc k) n ps) e (a .2))))))
+    (among-map (λ s. lo ∷ s) ps (setsOf (length ps) m (suc lo)) (sets-of← m (suc lo) n ps (omega arith) (subst (λ (k : ℕ). Asc (suc k) n ps) e (a .2))))))
     (λ e. among-r (p ∷ ps) (map (λ s. lo ∷ s) (setsOf (length ps) m (suc lo))) (setsOf (suc (length ps)) m (suc lo))
     (sets-of← m (suc lo) n (p ∷ ps) (omega arith) (let x = a .0 in omega arith, a .1, a .2)))
 
@@ -101,7 +76,7 @@ sets-of→ (suc k) (suc m) lo n ps q h =
         → ((r : List ℕ) → Among r (setsOf k m (suc lo)) → Asc (suc lo) n r × (length r ≡ k))
         → (Among ps (setsOf (suc k) m (suc lo)) → Asc (suc lo) n ps × (length ps ≡ suc k)) → Asc lo n ps × (length ps ≡ suc k)
     go (inl i) f g =
-        let t = among-unmap lo ps (setsOf k m (suc lo)) i in
+        let t = among-unmap (λ s. lo ∷ s) ps (setsOf k m (suc lo)) i in
         let z = f (t .0) (t .2) in
         rw (t .1) ((le-refl lo, omega arith, z .0), ap suc (z .1))
     go (inr i) f g = let z = g i in (asc-up lo (suc lo) n ps (omega arith) (z .0), z .1)
@@ -139,7 +114,7 @@ before-cons p x y (inr e) = inr (ap suc (e .0), inr (refl, e .1))
 ordered-map : (p : ℕ) (xs : List (List ℕ)) → Ordered xs → Ordered (map (λ r. p ∷ r) xs)
 ordered-map p [] o = tt
 ordered-map p (x ∷ xs) o = (
-  λ y k. let t = among-unmap p y xs k in subst (Before (p ∷ x)) (sym (t .1)) (before-cons p x (t .0) (o .0 (t .0) (t .2))),
+  λ y k. let t = among-unmap (λ r. p ∷ r) y xs k in subst (Before (p ∷ x)) (sym (t .1)) (before-cons p x (t .0) (o .0 (t .0) (t .2))),
   ordered-map p xs (o .1),
 )
 
@@ -150,7 +125,7 @@ sets-of-ordered (suc k) zero lo = tt
 sets-of-ordered (suc k) (suc m) lo =
     ordered-append (map (λ s. lo ∷ s) (setsOf k m (suc lo))) (setsOf (suc k) m (suc lo))
     (ordered-map lo (setsOf k m (suc lo)) (sets-of-ordered k m (suc lo))) (sets-of-ordered (suc k) m (suc lo))
-    (λ x y i j. let t = among-unmap lo x (setsOf k m (suc lo)) i in
+    (λ x y i j. let t = among-unmap (λ s. lo ∷ s) x (setsOf k m (suc lo)) i in
     let a = sets-of→ k m (suc lo) (suc lo + m) (t .0) refl (t .2) in
     let b = sets-of→ (suc k) m (suc lo) (suc lo + m) y refl j in
     subst (λ (z : List ℕ). Before z y) (sym (t .1)) (inr (ap suc (a .1) ∙ sym (b .1), first (t .0) y (b .0) (b .1))))
@@ -165,3 +140,35 @@ sets-ordered zero n = tt
 sets-ordered (suc k) n =
     ordered-append (setsInOrder k n) (setsOf (suc k) n 0) (sets-ordered k n) (sets-of-ordered (suc k) n 0)
     (λ x y i j. let a = sets→ k n x i in let b = sets-of→ (suc k) n 0 n y (omega arith) j in inl (omega (arith, a .2, b .1)))
+
+-- ---- how many sets there are, so that their count fits a word
+
+sets-few : (p m lo : ℕ) → length (setsOf p m lo) ≤ m ^ p
+unfolding setsOf
+sets-few zero m lo = omega (arith, pow-zero m)
+sets-few (suc p) zero lo = zero-le
+sets-few (suc p) (suc m) lo =
+    let a = sets-few p m (suc lo) in
+    let b = sets-few (suc p) m (suc lo) in
+    let u : m ^ p ≤ suc m ^ p = pow-le-pow-left (omega arith) p in
+    let v = mul-le-mul-right m u in
+    omega (
+      arith,
+      length-append (map (λ s. lo ∷ s) (setsOf p m (suc lo))) (setsOf (suc p) m (suc lo)),
+      length-map (setsOf p m (suc lo)) (λ s. lo ∷ s),
+      pow-suc m p,
+      pow-suc (suc m) p,
+    )
+
+pub sets-below : (k n : ℕ) → k ≤ 4 → n ≤ 128 → length (setsOf k n 0) ≤ 128 ^ 4
+sets-below k n h l = let a = sets-few k n 0 in let b : n ^ k ≤ 128 ^ k = pow-le-pow-left l k in
+    let c : 128 ^ k ≤ 128 ^ 4 = pow-le-pow-right (omega arith) h in omega arith
+
+pub in-order-below : (k n : ℕ) → k ≤ 4 → n ≤ 128 → length (setsInOrder k n) ≤ k * 128 ^ 4
+unfolding setsInOrder
+in-order-below zero n h l = omega arith
+in-order-below (suc k) n h l =
+    let a = in-order-below k n (omega arith) l in
+    let b = sets-below (suc k) n h l in
+    let c = length-append (setsInOrder k n) (setsOf (suc k) n 0) in
+    omega arith

@@ -1,26 +1,25 @@
 -- What a well-formed routine is to the rule: operands are earlier wires, shares come first, the randoms are the first leaves, each with a slot of its own.
-use mathlib.Core.Path.{_≡_, refl, sym, ap, ap₂, _∙_, subst}
+use mathlib.Core.Path.{_≡_, refl, ap, _∙_, subst}
 use mathlib.Core.Bool.{Bool, true, false, not, _&&_, cond}
-use mathlib.Core.Logic.{_⊎_, inl, inr, _≢_}
+use mathlib.Core.Logic.{inl, inr}
 use mathlib.Core.List.{List, [], _∷_}
-use Prim.Native.Nat.{ℕ, zero, suc, _+_, _*_, _/_, _%_, _≤_, _<_}
-use native.Mathlib.Nat.{mul-le-mul-right}
+use Prim.Native.Nat.{ℕ, zero, suc, _+_, _*_, _≤_, _<_}
 use native.Mathlib.Decide.{decLe}
 use native.Mathlib.Omega.{arith}
 use lib.Dec.{eqb, ltb, leb}
 use lib.ListN.{length, List·getD-eq-default, length-replicate}
-use Rattle.document.specs.Basics.{tally, all, at, mark}
-use Rattle.document.specs.Routine.{Routine, size, blank, wire, isRand, randsBefore, pubsBefore, outputs, operandsOf, operands}
+use Rattle.data.specs.Basics.{tally, all, at}
+use Rattle.document.specs.Routine.{Routine, size, blank, wire, isRand, randsBefore, operandsOf, operands}
 use Rattle.document.specs.Routine.{inRange, fits, record-fits, ceilings, wellFormed}
 use Rattle.document.specs.Padding.{unmarked, randsFrom, firstLeaves, padsOf, pads}
-use Rattle.document.specs.Laws.Tests.{clash, and-l, and-r, and-false, eqb-true, ltb-true, leb-true, wire-cases, all-at, tally-le, tally-skip, Mem}
-use Rattle.document.specs.Laws.Marks.{Set, In, Out, mark-length, mark-cases, mark-marks, none-marked}
+use Rattle.data.specs.Laws.Tests.{clash, and-l, and-r, and-false, ltb-true, leb-true, wire-cases, all-at, tally-le, tally-skip, Mem}
+use Rattle.document.specs.Laws.Marks.{Set, In, mark-length, mark-cases, mark-marks, none-marked}
 use Rattle.document.specs.Laws.Live.{Earlier, Within}
 use Rattle.document.specs.Laws.Steps.{hasPad, room}
 use Rattle.document.specs.Laws.Counting.{Slots}
-use Rattle.document.specs.declared.Kind.{Kind}
-use Rattle.document.specs.declared.Kind.the-variants.{Share, Rand, Pub, Xor, And, Not}
-use Rattle.document.specs.declared.Wire.{Wire}
+use Rattle.data.specs.declared.Kind.{Kind}
+use Rattle.data.specs.declared.Kind.the-variants.{Share, Rand, Pub, Xor, And, Not}
+use Rattle.data.specs.declared.Wire.{Wire}
 
 pub record Sound (R : Routine) : Type 0 where
   pub earlier : Earlier R

@@ -1,19 +1,19 @@
 -- Splitting secrets into shares: where a share of each secret is not live at the end, the secrets do not show in the counts.
 use mathlib.Core.Path.{_≡_, refl, sym, ap, ap₂, _∙_, subst}
-use mathlib.Core.Bool.{Bool, true, false, cond}
-use mathlib.Core.Logic.{_⊎_, inl, inr, _≢_}
-use mathlib.Core.List.{List, [], _∷_}
+use mathlib.Core.Bool.{Bool, cond}
+use mathlib.Core.Logic.{_≢_}
+use mathlib.Core.List.{List}
 use Prim.Native.Nat.{ℕ, zero, suc, _+_, _*_, _≤_, _<_}
 use native.Mathlib.Nat.{not-suc-le-zero, mul-le-mul-right, le-refl}
 use native.Mathlib.Omega.{arith}
 use lib.Dec.{eqb}
 use lib.ListN.{length, getD, set}
 use lib.Seq.{getD-set-same, getD-set-other}
-use Rattle.document.specs.Basics.{all}
+use Rattle.data.specs.Basics.{all}
 use Rattle.document.specs.Routine.{Routine}
 use Rattle.document.specs.Running.{Value}
 use Rattle.document.specs.Starts.{xorOf, Small}
-use Rattle.document.specs.Laws.Tests.{clash, bool-cases, eqb-true, true-eqb, out-of, wire-cases, all-ext}
+use Rattle.data.specs.Laws.Tests.{clash, bool-cases, eqb-true, true-eqb, out-of, wire-cases, all-ext}
 use Rattle.document.specs.Laws.Marks.{Set}
 use Rattle.document.specs.Laws.Rule.{Live, Run}
 use Rattle.document.specs.Laws.Live.{net, Earlier}
@@ -43,12 +43,12 @@ module _ (K : Value) (law : Lawful K) where
 
   -- ---- the xor of shares
 
-  xors-ext : (n : ℕ) (f g : ℕ → ℕ) → ((j : ℕ) → j < n → f j ≡ g j) → xorOf K n f ≡ xorOf K n g
+  pub xors-ext : (n : ℕ) (f g : ℕ → ℕ) → ((j : ℕ) → j < n → f j ≡ g j) → xorOf K n f ≡ xorOf K n g
   unfolding xorOf
   xors-ext zero f g h = refl
   xors-ext (suc n) f g h = ap₂ (K .plus) (xors-ext n f g (λ j l. h j (omega arith))) (h n (omega arith))
 
-  xors-ok : (n : ℕ) (f : ℕ → ℕ) → ((j : ℕ) → f j < K .many) → xorOf K n f < K .many
+  pub xors-ok : (n : ℕ) (f : ℕ → ℕ) → ((j : ℕ) → f j < K .many) → xorOf K n f < K .many
   unfolding xorOf
   xors-ok zero f h = pos
   xors-ok (suc n) f h = plus-ok (xorOf K n f) (f n) (xors-ok n f h) (h n)

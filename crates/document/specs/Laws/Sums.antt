@@ -1,15 +1,15 @@
 -- Sums over all values below a bound and over all words of values; a permutation at one place keeps them.
 use mathlib.Core.Path.{_≡_, refl, sym, ap, ap₂, _∙_, subst, fun-ext}
-use mathlib.Core.Bool.{Bool, true, false, cond}
+use mathlib.Core.Bool.{cond}
 use mathlib.Core.Logic.{_≢_}
 use mathlib.Core.List.{List, [], _∷_}
-use Prim.Native.Nat.{ℕ, zero, suc, _+_, _≤_, _<_}
+use Prim.Native.Nat.{ℕ, zero, suc, _+_, _<_}
 use native.Mathlib.Nat.{not-suc-le-zero, le-of-suc-le-suc}
 use native.Mathlib.Omega.{arith}
 use lib.Dec.{eqb}
 use lib.ListN.{length, getD, set}
 use Rattle.document.specs.Starts.{Small}
-use Rattle.document.specs.Laws.Tests.{bool-cases, cond-true, cond-false, eqb-true, true-eqb, out-of, wire-cases}
+use Rattle.data.specs.Laws.Tests.{cond-true, cond-false, eqb-true, true-eqb, out-of, wire-cases}
 
 -- ---- one changed place of a function
 

@@ -1,25 +1,25 @@
 -- The laws that a kind of value must have, bits among them; and the values of wires of which some are leaves that read a slot of the random word.
 use mathlib.Core.Path.{_≡_, refl, sym, ap, ap₂, _∙_, subst}
 use mathlib.Core.Bool.{Bool, true, false, cond}
-use mathlib.Core.Logic.{_⊎_, inl, inr, _≢_}
+use mathlib.Core.Logic.{inl, inr, _≢_}
 use mathlib.Core.List.{List, [], _∷_}
-use Prim.Native.Nat.{ℕ, zero, suc, _+_, _*_, _-_, _/_, _%_, _≤_, _<_, min, max}
+use Prim.Native.Nat.{ℕ, zero, suc, _+_, _*_, _-_, _/_, _%_, _<_, min, max}
 use native.Mathlib.Nat.{not-suc-le-zero, mod-lt, zero-lt-suc}
 use native.Mathlib.Omega.{arith}
 use lib.Arith.{bin-ind}
-use lib.Bits.{bitXor, bitAnd, differ, xor-step, xor-shr, xor-mod, xor-comm, xor-lt, and-lt, xor-self, xor-zero-l}
+use lib.Bits.{bitXor, differ, xor-step, xor-shr, xor-mod, xor-comm, xor-lt, and-lt, xor-self, xor-zero-l}
 use lib.Dec.{eqb, lit<}
-use lib.ListN.{length, getD}
-use Rattle.document.specs.Routine.{Routine, wire, randsBefore, pubsBefore, operandsOf, operands}
+use lib.ListN.{getD}
+use Rattle.document.specs.Routine.{Routine, wire, pubsBefore, operandsOf, operands}
 use Rattle.document.specs.Running.{Value, bit, gives, valueAt}
 use Rattle.document.specs.Padding.{padsOf, pads}
-use Rattle.document.specs.Laws.Tests.{bool-cases, true-eqb, clash, wire-cases, Mem}
+use Rattle.data.specs.Laws.Tests.{bool-cases, true-eqb, clash, wire-cases, Mem}
 use Rattle.document.specs.Laws.Marks.{Set, In, Out}
 use Rattle.document.specs.Laws.Sums.{upd, upd-same, upd-other, Perm, perm-ext}
 use Rattle.document.specs.Starts.{Small}
 use Rattle.document.specs.Laws.Live.{Earlier}
-use Rattle.document.specs.declared.Kind.{Kind}
-use Rattle.document.specs.declared.Kind.the-variants.{Share, Rand, Pub, Xor, And, Not}
+use Rattle.data.specs.declared.Kind.{Kind}
+use Rattle.data.specs.declared.Kind.the-variants.{Share, Rand, Pub, Xor, And, Not}
 
 -- ---- lawful kinds of value
 
@@ -79,7 +79,7 @@ module _ (K : Value) (law : Lawful K) where
   pub cancel : (c u v : ℕ) → c < K .many → u < K .many → v < K .many → K .plus c u ≡ K .plus c v → u ≡ v
   cancel c u v k a b e = sym (plus-back c u k a) ∙ ap (K .plus c) e ∙ plus-back c v k b
 
-  plus-perm-r : (c : ℕ) → c < K .many → Perm (K .many) (λ v. K .plus c v)
+  pub plus-perm-r : (c : ℕ) → c < K .many → Perm (K .many) (λ v. K .plus c v)
   plus-perm-r c k = record { stays = λ v l. plus-ok c v k l; apart = λ u v a b e. cancel c u v k a b e }
 
   pub plus-perm-l : (c : ℕ) → c < K .many → Perm (K .many) (λ v. K .plus v c)

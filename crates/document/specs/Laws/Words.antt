@@ -7,7 +7,7 @@ use native.Mathlib.Omega.{arith}
 use lib.Count.{ones, onesIn, ones-cat}
 use lib.Dec.{lit<}
 use lib.Pow.{pow-add, high, low}
-use Rattle.document.specs.Basics.{one, tally}
+use Rattle.data.specs.Basics.{one, tally}
 use Rattle.document.specs.Padding.{word}
 
 bit-most : (b : Bool) (p : ℕ) → one b * p ≤ p

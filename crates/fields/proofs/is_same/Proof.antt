@@ -1,6 +1,6 @@
 -- `fields::is_same` meets its contract: what is left to compare is as good as the whole.
 use Rattle.fields.proofs.Laws.{same-step, same-end, same-not}
-use Rattle.document.specs.Basics.{same}
+use Rattle.data.specs.Basics.{same}
 use native.Mathlib.Omega.{arith}
 use lib.ListN.{length, getD, drop}
 use borrow.Author.Tests.{eq-eqb, ne-eqb}

@@ -6,24 +6,24 @@ use Prim.Native.Nat.{ℕ, _+_, _-_, _≤_, zero-le}
 use native.Mathlib.Omega.{arith}
 use lib.Dec.{leb, ltb, eqb}
 use lib.ListN.{length, take, drop, getD}
-use Rattle.document.specs.Basics.{each}
-use Rattle.document.specs.Laws.Tests.{cond-cases, leb-true}
+use Rattle.data.specs.Basics.{each}
+use Rattle.data.specs.Laws.Tests.{cond-cases, leb-true}
 use Rattle.document.specs.Lines.{lf, linesIn}
 use Rattle.document.specs.Reading.{takeLine, notRead, onward, readLines, begun, fromHeader, fromFirst, letter, reading}
 use Rattle.document.specs.Routine.{inRange}
-use Rattle.document.specs.declared.Line.{Line}
-use Rattle.document.specs.declared.Line.the-variants as L
-use Rattle.document.specs.declared.Outcome.{Outcome}
-use Rattle.document.specs.declared.Outcome.the-variants.{Done, Refused}
-use Rattle.document.specs.declared.Read.{Read}
-use Rattle.document.specs.declared.Refusal.{Refusal}
-use Rattle.document.specs.declared.Refusal.the-variants as No
-use Rattle.document.specs.declared.State.{State}
-use Rattle.document.specs.declared.Wire.{Wire}
+use Rattle.data.specs.declared.Line.{Line}
+use Rattle.data.specs.declared.Line.the-variants as L
+use Rattle.data.specs.declared.Outcome.{Outcome}
+use Rattle.data.specs.declared.Outcome.the-variants.{Done, Refused}
+use Rattle.data.specs.declared.Read.{Read}
+use Rattle.data.specs.declared.Refusal.{Refusal}
+use Rattle.data.specs.declared.Refusal.the-variants as No
+use Rattle.data.specs.declared.State.{State}
+use Rattle.data.specs.declared.Wire.{Wire}
 use Rattle.taking.specs.Ceilings.{UnderCeilings}
 use Rattle.taking.proofs.LineLaws.{take-bounded}
 use Rattle.reader.proofs.TextLaws.{begun-bounded}
-use Rattle.document.specs.declared.Filled.{Filled}
+use Rattle.data.specs.declared.Filled.{Filled}
 use Rattle.document.specs.Lent.{readFor, filled, filledWith, lentRead, lentReadInto, ReadsInto}
 
 -- what a read leaves in a list

@@ -1,9 +1,9 @@
 -- `growing::bound_of` meets its contract, judgement by judgement.
 use mathlib.Core.Path.{sym, ap, _∙_}
 use borrow.Author.Needs.{needs}
-use Rattle.document.specs.ProbeSets.{held}
+use Rattle.data.specs.ProbeSets.{held}
 use Rattle.growing.specs.Growing.{boundOf}
-use Rattle.document.specs.declared.Which.{Which}
+use Rattle.data.specs.declared.Which.{Which}
 use Rattle.growing.proofs.bound_of.Statement.{statement}
 use Rattle.growing.proofs.bound_of.Tie as tie
 

@@ -4,9 +4,9 @@ use mathlib.Core.Path.{sym, ap, _∙_}
 use Prim.Native.Nat.{_+_}
 use borrow.Author.Needs.{needs}
 use borrow.Author.Tests.{not-true, not-false}
-use Rattle.document.specs.Laws.Tests.{cond-true, cond-false}
-use Rattle.document.specs.ProbeSets.{held}
-use Rattle.document.specs.declared.ProbeSet.{ProbeSet}
+use Rattle.data.specs.Laws.Tests.{cond-true, cond-false}
+use Rattle.data.specs.ProbeSets.{held}
+use Rattle.data.specs.declared.ProbeSet.{ProbeSet}
 use Rattle.growing.specs.Growing.{none, found}
 use Rattle.growing.proofs.judge_set.Statement.{statement}
 use Rattle.growing.proofs.judge_set.Tie as tie

@@ -2,7 +2,7 @@
 use mathlib.Core.Path.{sym, ap}
 use borrow.Author.Needs.{needs}
 use Rattle.document.specs.Judgements.{judgementOf}
-use Rattle.document.specs.declared.Which.{Which}
+use Rattle.data.specs.declared.Which.{Which}
 use Rattle.growing.proofs.largest.Statement.{statement}
 use Rattle.growing.proofs.largest.Tie as tie
 

@@ -2,7 +2,7 @@
 use mathlib.Core.Bool.{false}
 use mathlib.Core.Path.{ap}
 use borrow.Author.Needs.{needs}
-use Rattle.document.specs.declared.ProbeSet.{ProbeSet}
+use Rattle.data.specs.declared.ProbeSet.{ProbeSet}
 use Rattle.growing.specs.declared.Found.{Found}
 use Rattle.growing.proofs.nothing_found.Statement.{statement}
 use Rattle.growing.proofs.nothing_found.Tie as tie

@@ -1,7 +1,7 @@
 -- `growing::nothing_grown` meets its contract: no wire is the empty set.
 use mathlib.Core.Path.{ap}
 use borrow.Author.Needs.{needs}
-use Rattle.document.specs.declared.ProbeSet.{ProbeSet}
+use Rattle.data.specs.declared.ProbeSet.{ProbeSet}
 use Rattle.growing.specs.declared.Grown.{Grown}
 use Rattle.growing.proofs.nothing_grown.Statement.{statement}
 use Rattle.growing.proofs.nothing_grown.Tie as tie

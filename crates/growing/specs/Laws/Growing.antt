@@ -9,20 +9,20 @@ use native.Mathlib.Omega.{arith}
 use lib.Bits.{bitOr}
 use lib.ListN.{length, getD, take, set}
 use lib.Seq.{take-suc}
-use Rattle.document.specs.Basics.{one, keep}
+use Rattle.data.specs.Basics.{one, keep}
 use Rattle.document.specs.Routine.{routineOf}
-use Rattle.document.specs.ProbeSets.{held, setOf, Asc}
+use Rattle.data.specs.ProbeSets.{held, setOf, Asc}
 use Rattle.document.specs.Judgements.{inner, judgementOf}
-use Rattle.document.specs.Laws.Tests.{wire-cases, Mem}
+use Rattle.data.specs.Laws.Tests.{wire-cases, Mem}
 use Rattle.document.specs.Laws.Needed.{asc-low}
-use Rattle.document.specs.declared.ProbeSet.{ProbeSet}
-use Rattle.document.specs.declared.Wire.{Wire}
-use Rattle.document.specs.declared.Shape.{Shape}
+use Rattle.data.specs.declared.ProbeSet.{ProbeSet}
+use Rattle.data.specs.declared.Wire.{Wire}
+use Rattle.data.specs.declared.Shape.{Shape}
 use Rattle.records.specs.Records.{recordAt}
 use Rattle.records.specs.Laws.Counts.{wire-is}
 use Rattle.cones.specs.Laws.Spared.{Steady, plain-steady, strong-steady}
-use Rattle.document.specs.declared.Which.{Which}
-use Rattle.document.specs.declared.Which.the-variants.{Plain, Strong}
+use Rattle.data.specs.declared.Which.{Which}
+use Rattle.data.specs.declared.Which.the-variants.{Plain, Strong}
 use Rattle.growing.specs.declared.Grown.{Grown}
 use Rattle.growing.specs.Growing.{ownWith, grownBy, Skipped, innerOf, boundOf}
 

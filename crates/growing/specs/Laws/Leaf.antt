@@ -9,15 +9,15 @@ use lib.Count.{ones}
 use lib.Dec.{ltb}
 use lib.ListN.{length, getD, replicate, length-append, length-replicate}
 use lib.Seq.{append-snoc, getD-take, length-take-le}
-use Rattle.document.specs.Basics.{some, Marks}
+use Rattle.data.specs.Basics.{some, Marks}
 use Rattle.document.specs.Routine.{Routine, size}
-use Rattle.document.specs.ProbeSets.{held, setOf, Asc}
+use Rattle.data.specs.ProbeSets.{held, setOf, Asc}
 use Rattle.document.specs.Padding.{probed, bitsOf, neededShares, neededOf}
 use Rattle.document.specs.Judgements.{isOpen, judgementOf}
-use Rattle.document.specs.Laws.Tests.{ltb-false, some-none, Mem}
+use Rattle.data.specs.Laws.Tests.{ltb-false, some-none, Mem}
 use Rattle.document.specs.Laws.Needed.{asc-low}
 use Rattle.document.specs.Laws.Sound.{Sound}
-use Rattle.document.specs.declared.ProbeSet.{ProbeSet}
+use Rattle.data.specs.declared.ProbeSet.{ProbeSet}
 use Rattle.records.specs.Laws.Fitting.{fit-of}
 use Rattle.cones.specs.Laws.Making.{fit-sound}
 use Rattle.cones.specs.Seen.{Seen, seeWire, seeAll, unseen}

@@ -1,27 +1,30 @@
 -- Answers that the contracts of the calls over a lent list ask for, computed from the definitions.
 use mathlib.Core.Path.{_≡_, refl}
-use mathlib.Core.Bool.{true, false}
+use mathlib.Core.Bool.{Bool, true, false}
 use mathlib.Core.List.{List, [], _∷_, _++_}
-use Prim.Native.Nat.{ℕ, _*_}
+use Prim.Native.Nat.{ℕ, zero, suc, _*_, _≤_}
+use native.Mathlib.Omega.{arith}
+use lib.Count.{ones}
+use lib.Dec.{ltb}
 use lib.ListN.{replicate, take}
-use Rattle.document.specs.Basics.{at, mark}
+use Rattle.data.specs.Basics.{some, at}
 use Rattle.document.specs.Routine.{Routine, size, blank}
 use Rattle.document.specs.Reading.{blanks, whole-reading}
 use Rattle.document.specs.Lines.{whole-lines}
 use Rattle.document.specs.Writing.{whole-writing}
 use Rattle.document.specs.Running.{whole-running}
-use Rattle.document.specs.ProbeSets.{setOf}
-use Rattle.document.specs.Padding.{probed, firstLeaves, live, steps, word, paddedWires}
+use Rattle.data.specs.ProbeSets.{setOf}
+use Rattle.document.specs.Padding.{probed, firstLeaves, live, steps, leavesAfter, word, bitsOf}
 use Rattle.document.specs.Judgements.{plain, strong, passed, opened, neededNot, paddedNot, stepList, whole-judgements}
 use Rattle.document.specs.Lent.{lent, lentRead, lentReadInto, lentWritten, lentWrittenInto, lentRan, lentRanInto, lentNeeding, lentPadding, lentJudged}
 use Rattle.document.specs.Lent.{whole-lent}
 use Rattle.document.specs.Examples.{exampleA, exampleB, lines, cases}
-use Rattle.document.specs.declared.Kind.the-variants.{Share, Rand, Xor}
-use Rattle.document.specs.declared.Outcome.the-variants.{Done, Refused}
-use Rattle.document.specs.declared.Refusal.the-variants as No
-use Rattle.document.specs.declared.Shape.{Shape}
-use Rattle.document.specs.declared.Step.{Step}
-use Rattle.document.specs.declared.Wire.{Wire}
+use Rattle.data.specs.declared.Kind.the-variants.{Share, Rand, Xor}
+use Rattle.data.specs.declared.Outcome.the-variants.{Done, Refused}
+use Rattle.data.specs.declared.Refusal.the-variants as No
+use Rattle.data.specs.declared.Shape.{Shape}
+use Rattle.data.specs.declared.Step.{Step}
+use Rattle.data.specs.declared.Wire.{Wire}
 use Rattle.reader.specs.Laws.TextExamples.{bytes}
 
 -- ---- lists
@@ -78,7 +81,7 @@ step w r = record { w = w; r = r }
 
 -- the shares that are live when only the first k steps are made
 unfoldable pub sharesAfter : ℕ → Routine → List ℕ → ℕ
-sharesAfter k R ps = word (R .S * R .D) (at (live R (probed ps) (mark (paddedWires (take k (steps R ps))) (firstLeaves R))))
+sharesAfter k R ps = word (R .S * R .D) (at (live R (probed ps) (leavesAfter (take k (steps R ps)) (firstLeaves R))))
 
 pub worked-needs :
     (lentNeeding (sized sum) (sum .wires) 1 (setOf (10 ∷ [])) ≡ record { outcome = Done; shares = 0; undecided = false })
@@ -98,6 +101,17 @@ worked-pads = (refl, refl, refl)
 pub too-few-steps : (sharesAfter 0 sum (10 ∷ []) ≡ 7) × (sharesAfter 1 sum (10 ∷ []) ≡ 6)
 unfolding sharesAfter whole-judgements
 too-few-steps = (refl, refl)
+
+-- whether the set would be open at order t by the plain judgement then
+unfoldable pub opensAfter : ℕ → Routine → ℕ → List ℕ → Bool
+opensAfter k R t ps = some (R .S) (λ i. ltb t (ones (bitsOf R i (sharesAfter k R ps))))
+
+-- with at most one step it would
+pub too-few-open : (k : ℕ) → k ≤ 1 → opensAfter k sum 1 (10 ∷ []) ≡ true
+unfolding opensAfter sharesAfter whole-judgements
+too-few-open zero h = refl
+too-few-open (suc zero) h = refl
+too-few-open (suc (suc k)) h = absurd (omega arith)
 
 -- ---- texts
 

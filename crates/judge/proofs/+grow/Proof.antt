@@ -6,7 +6,7 @@ use native.Mathlib.Omega.{arith}
 use borrow.Author.Needs.{needs}
 use borrow.Fn.Kinds.{In}
 use borrow.Fn.PlainCycle.{Measures, is, falls, and}
-use Rattle.document.specs.ProbeSets.{held}
+use Rattle.data.specs.ProbeSets.{held}
 use Rattle.judge.proofs.+grow.{statement}
 use Rattle.judge.proofs.+grow.Tie.{close}
 use Rattle.growing.specs.Growing.{opensIn}

@@ -1,10 +1,10 @@
 -- `judge::answer_of` meets its contract, by what was found.
 use mathlib.Core.Bool.{Bool, cond}
 use mathlib.Core.Path.{sym, ap}
-use Rattle.document.specs.declared.Judged.{Judged}
+use Rattle.data.specs.declared.Judged.{Judged}
 use Rattle.judge.specs.Search.{answerOf}
 use Rattle.judge.proofs.answer_of.Statement.{statement}
-use Rattle.document.specs.declared.Verdict.the-variants as Says
+use Rattle.data.specs.declared.Verdict.the-variants as Says
 use Rattle.judge.proofs.answer_of.Tie as tie
 
 returns : tie.Need-returns

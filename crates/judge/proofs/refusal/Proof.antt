@@ -1,9 +1,9 @@
 -- `judge::refusal` meets its contract: a refusal has the empty set.
 use mathlib.Core.Path.{ap}
 use borrow.Author.Needs.{needs}
-use Rattle.document.specs.declared.ProbeSet.{ProbeSet}
-use Rattle.document.specs.declared.Judged.{Judged}
-use Rattle.document.specs.declared.Verdict.the-variants as Says
+use Rattle.data.specs.declared.ProbeSet.{ProbeSet}
+use Rattle.data.specs.declared.Judged.{Judged}
+use Rattle.data.specs.declared.Verdict.the-variants as Says
 use Rattle.judge.proofs.refusal.Statement.{statement}
 use Rattle.judge.proofs.refusal.Tie as tie
 

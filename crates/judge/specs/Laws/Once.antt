@@ -4,10 +4,10 @@ use mathlib.Core.List.{List}
 use Prim.Native.Nat.{ℕ}
 use Rattle.document.specs.Judgements.{judgementOf}
 use Rattle.document.specs.Lent.{lentJudged}
-use Rattle.document.specs.declared.Which.{Which}
-use Rattle.document.specs.declared.Wire.{Wire}
-use Rattle.document.specs.declared.Shape.{Shape}
-use Rattle.document.specs.declared.Judged.{Judged}
+use Rattle.data.specs.declared.Which.{Which}
+use Rattle.data.specs.declared.Wire.{Wire}
+use Rattle.data.specs.declared.Shape.{Shape}
+use Rattle.data.specs.declared.Judged.{Judged}
 
 pub judge-once : (σ : Shape) (ws : List Wire) (which : Which) (t : ℕ) (r q : Judged)
     → r ≡ lentJudged (judgementOf which) σ ws t → q ≡ lentJudged (judgementOf which) σ ws t → r ≡ q

@@ -1,11 +1,8 @@
--- Growing sets one wire at a time is searching the sets in order (5.9, 5.12); and how many sets there are.
+-- Growing sets one wire at a time is searching the sets in order (5.9, 5.12).
 use mathlib.Core.Path.{_≡_, refl, sym, ap, ap₂, _∙_, fun-ext}
 use mathlib.Core.Bool.{Bool, true, false, cond}
 use mathlib.Core.List.{List, [], _∷_, _++_, map, append-nil}
-use Prim.Native.Nat.{ℕ, zero, suc, _^_, _≤_, zero-le}
-use native.Mathlib.Nat.{pow-zero, pow-suc, mul-le-mul-right, pow-le-pow-left}
-use native.Mathlib.Omega.{arith}
-use lib.ListN.{length, length-append, length-map}
+use Prim.Native.Nat.{ℕ, zero, suc}
 use lib.Seq.{append-snoc}
 use Rattle.document.specs.Judgements.{setsOf, opened, firstOpen}
 use Rattle.growing.specs.Growing.{none, found}
@@ -56,22 +53,3 @@ map-same (x ∷ xs) = ap {B = List (List ℕ)} (λ t. x ∷ t) (map-same xs)
 -- the sets of p of m wires, from none
 pub grow-sets : (opens : List ℕ → Bool) (p m k : ℕ) → grow opens p m 0 [] k ≡ search opens k (setsOf p m 0)
 grow-sets opens p m k = grow-is opens p m 0 [] k ∙ ap (search opens k) (map-same (setsOf p m 0))
-
--- ---- how many sets there are, so that their count fits a word
-
-pub sets-few : (p m lo : ℕ) → length (setsOf p m lo) ≤ m ^ p
-unfolding setsOf
-sets-few zero m lo = omega (arith, pow-zero m)
-sets-few (suc p) zero lo = zero-le
-sets-few (suc p) (suc m) lo =
-    let a = sets-few p m (suc lo) in
-    let b = sets-few (suc p) m (suc lo) in
-    let u : m ^ p ≤ suc m ^ p = pow-le-pow-left (omega arith) p in
-    let v = mul-le-mul-right m u in
-    omega (
-      arith,
-      length-append (map (λ s. lo ∷ s) (setsOf p m (suc lo))) (setsOf (suc p) m (suc lo)),
-      length-map (setsOf p m (suc lo)) (λ s. lo ∷ s),
-      pow-suc m p,
-      pow-suc (suc m) p,
-    )

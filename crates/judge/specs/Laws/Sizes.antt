@@ -3,49 +3,34 @@ use mathlib.Core.Path.{_≡_, refl, sym, ap, _∙_, subst}
 use mathlib.Core.Bool.{Bool, true, false, _&&_, cond}
 use mathlib.Core.Logic.{inl, inr}
 use mathlib.Core.List.{List, [], _∷_}
-use Prim.Native.Nat.{ℕ, zero, suc, _+_, _-_, _*_, _^_, _≤_, _<_}
-use native.Mathlib.Nat.{pow-le-pow-left, pow-le-pow-right}
+use Prim.Native.Nat.{ℕ, suc, _+_, _-_, _^_, _≤_, _<_}
 use native.Mathlib.Decide.{le-ind}
 use native.Mathlib.Omega.{arith}
 use lib.Dec.{leb, ltb}
-use lib.ListN.{length, length-append}
+use lib.ListN.{length}
 use Rattle.document.specs.Routine.{Routine, size, wellFormed, routineOf, recordsFit}
-use Rattle.document.specs.ProbeSets.{held, setOf, Asc}
-use Rattle.document.specs.Judgements.{isOpen, setsOf, setsInOrder, setsJudged, judgement, orderFits, judgedNot, judged, Among, NoneOpen, judgementOf}
+use Rattle.data.specs.ProbeSets.{held, setOf, Asc}
+use Rattle.document.specs.Judgements.{isOpen, setsOf, setsInOrder, setsJudged, judgement, orderFits, judgedNot, judged, NoneOpen, judgementOf}
+use Rattle.data.specs.Basics.{Among}
 use Rattle.document.specs.Lent.{lent, lentJudged}
-use Rattle.document.specs.Laws.Tests.{clash, bool-cases, and-l, and-r, leb-true}
-use Rattle.document.specs.Laws.Sets.{sets←}
-use Rattle.document.specs.declared.Refusal.the-variants as No
-use Rattle.document.specs.declared.Judged.{Judged}
-use Rattle.document.specs.declared.Wire.{Wire}
-use Rattle.document.specs.declared.Shape.{Shape}
+use Rattle.data.specs.Laws.Tests.{clash, bool-cases, and-l, and-r, leb-true}
+use Rattle.document.specs.Laws.Sets.{sets←, sets-below, in-order-below}
+use Rattle.data.specs.declared.Refusal.the-variants as No
+use Rattle.data.specs.declared.Judged.{Judged}
+use Rattle.data.specs.declared.Wire.{Wire}
+use Rattle.data.specs.declared.Shape.{Shape}
 use Rattle.records.specs.Laws.Fitting.{fit-of}
 use Rattle.rule.specs.Calls.{orderIn}
 use Rattle.cones.specs.Making.{TablesOf}
 use Rattle.cones.specs.Seen.{seeAll}
-use Rattle.document.specs.declared.Which.{Which}
-use Rattle.document.specs.declared.Which.the-variants.{Plain, Strong}
+use Rattle.data.specs.declared.Which.{Which}
+use Rattle.data.specs.declared.Which.the-variants.{Plain, Strong}
 use Rattle.growing.specs.declared.Question.{Question}
 use Rattle.growing.specs.declared.Found.{Found}
 use Rattle.growing.specs.declared.Grown.{Grown}
 use Rattle.growing.specs.Growing.{none, found, routineAsked, opensIn, Fits, nothingGrown, ClosedBelow}
 use Rattle.judge.specs.Search.{search, answerOf, onFrom, grow, foundUpTo, Searching}
-use Rattle.judge.specs.Laws.Search.{answer-is, search-append, grow-sets, sets-few}
-
--- ---- how many sets there are
-
-sets-below : (k n : ℕ) → k ≤ 4 → n ≤ 128 → length (setsOf k n 0) ≤ 128 ^ 4
-sets-below k n h l = let a = sets-few k n 0 in let b : n ^ k ≤ 128 ^ k = pow-le-pow-left l k in
-    let c : 128 ^ k ≤ 128 ^ 4 = pow-le-pow-right (omega arith) h in omega arith
-
-in-order-below : (k n : ℕ) → k ≤ 4 → n ≤ 128 → length (setsInOrder k n) ≤ k * 128 ^ 4
-unfolding setsInOrder
-in-order-below zero n h l = omega arith
-in-order-below (suc k) n h l =
-    let a = in-order-below k n (omega arith) l in
-    let b = sets-below (suc k) n h l in
-    let c = length-append (setsInOrder k n) (setsOf (suc k) n 0) in
-    omega arith
+use Rattle.judge.specs.Laws.Search.{answer-is, search-append, grow-sets}
 
 -- ---- from a size to the next
 

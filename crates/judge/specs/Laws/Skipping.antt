@@ -6,7 +6,7 @@ use mathlib.Core.List.{List, [], _∷_, _++_}
 use Prim.Native.Nat.{ℕ, zero, suc, _+_, _-_, _≤_, _<_}
 use native.Mathlib.Omega.{arith}
 use lib.ListN.{getD}
-use Rattle.document.specs.ProbeSets.{held}
+use Rattle.data.specs.ProbeSets.{held}
 use Rattle.growing.specs.declared.Question.{Question}
 use Rattle.growing.specs.declared.Found.{Found}
 use Rattle.growing.specs.declared.Grown.{Grown}

@@ -9,7 +9,7 @@ use native.Mathlib.Omega.{arith}
 use lib.ListN.{length, getD, take, length-append, length-map}
 use lib.Seq.{getD-take}
 use Rattle.document.specs.Routine.{Routine, size}
-use Rattle.document.specs.ProbeSets.{held, setOf, Asc}
+use Rattle.data.specs.ProbeSets.{held, setOf, Asc}
 use Rattle.document.specs.Judgements.{setsOf}
 use Rattle.records.specs.Laws.Fitting.{fit-of}
 use Rattle.cones.specs.Tables.{shareCones, randCones, ownRands}

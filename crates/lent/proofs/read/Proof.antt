@@ -39,15 +39,15 @@ use denote.Triple.Spec.{Meets, tripleOf}
 use denote.Triple.Table.{entered, cited}
 use denote.Triple.Walked.{says, Stays, stay-none-slice, gave-slice, walkOf, goes-none-slice, goes-gave-slice, Walks, ends-at, walked, walk-meets}
 use denote.Exit.{yes}
-use Rattle.document.specs.declared.Read.{Read}
-use Rattle.document.specs.declared.Wire.{Wire}
-use Rattle.document.specs.declared.Filled.{Filled}
+use Rattle.data.specs.declared.Read.{Read}
+use Rattle.data.specs.declared.Wire.{Wire}
+use Rattle.data.specs.declared.Filled.{Filled}
 use Rattle.document.specs.Lent.{readFor, filled, ReadsInto}
-use Rattle.document.proofs.Wire as T
-use Rattle.document.proofs.Read as Rd
-use Rattle.document.proofs.Read.Laws as Rd′
-use Rattle.document.proofs.Filled as R
-use Rattle.document.proofs.Filled.Laws as R′
+use Rattle.data.proofs.Wire as T
+use Rattle.data.proofs.Read as Rd
+use Rattle.data.proofs.Read.Laws as Rd′
+use Rattle.data.proofs.Filled as R
+use Rattle.data.proofs.Filled.Laws as R′
 use Rattle.copies.proofs.Arrays.{Records, records-makes, records-typed}
 use Rattle.filling.specs.Laws.Stored.{stored, fits-list, read-answers}
 use Rattle.filling.proofs.read_for as read-for

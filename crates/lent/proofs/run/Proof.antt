@@ -40,17 +40,17 @@ use denote.Triple.Walked.{says, Stays, stay-none-slice, stay-none, gave-slice, w
 use denote.Triple.Walked.{Walks, ends-at, walked, walk-meets}
 use denote.Exit.{yes}
 use Rattle.document.specs.Lent.{RunsInto}
-use Rattle.document.specs.declared.Wire.{Wire}
-use Rattle.document.specs.declared.Shape.{Shape}
-use Rattle.document.specs.declared.Listing.{Listing}
-use Rattle.document.specs.declared.Ran.{Ran}
-use Rattle.document.proofs.Wire as W′
-use Rattle.document.proofs.Shape as S
-use Rattle.document.proofs.Shape.Laws as S′
-use Rattle.document.proofs.Listing as L
-use Rattle.document.proofs.Listing.Laws as L′
-use Rattle.document.proofs.Ran as R
-use Rattle.document.proofs.Ran.Laws as R′
+use Rattle.data.specs.declared.Wire.{Wire}
+use Rattle.data.specs.declared.Shape.{Shape}
+use Rattle.data.specs.declared.Listing.{Listing}
+use Rattle.data.specs.declared.Ran.{Ran}
+use Rattle.data.proofs.Wire as W′
+use Rattle.data.proofs.Shape as S
+use Rattle.data.proofs.Shape.Laws as S′
+use Rattle.data.proofs.Listing as L
+use Rattle.data.proofs.Listing.Laws as L′
+use Rattle.data.proofs.Ran as R
+use Rattle.data.proofs.Ran.Laws as R′
 use Rattle.lent.specs.Laws.Same.{run-same}
 use Rattle.lent.proofs.CallFirst.{listVal, Own, First-is, First, to-first, asked-first, Said-first, said-first}
 use Rattle.copies.proofs.listing_of.Symbol as first-def

@@ -5,8 +5,8 @@ use mathlib.Core.List.{List}
 use Prim.Native.Nat.{ℕ}
 use Rattle.document.specs.Lent.{ReadsInto}
 use Rattle.document.specs.Laws.Answers.{gives-once}
-use Rattle.document.specs.declared.Filled.{Filled}
-use Rattle.document.specs.declared.Wire.{Wire}
+use Rattle.data.specs.declared.Filled.{Filled}
+use Rattle.data.specs.declared.Wire.{Wire}
 
 pub read-into-once : (text : List ℕ) (list : List Wire) {q r : Filled} {before after : List Wire}
     → ReadsInto text list q before → ReadsInto text list r after → (q ≡ r) × (before ≡ after)

@@ -9,22 +9,22 @@ use borrow.Author.Tests.{le-leb}
 use lib.Dec.{leb}
 use lib.ListN.{length, take, drop}
 use lib.Seq.{length-take-le, length-front, take-at}
-use Rattle.document.specs.Laws.Tests.{clash, out-of, bool-cases, and-l, and-r, and-i, leb-true}
+use Rattle.data.specs.Laws.Tests.{clash, out-of, bool-cases, and-l, and-r, and-i, leb-true}
 use Rattle.document.specs.Judgements.{Judgement, judged, judgedNot, setRefusal, needing, neededNot, padding, paddedNot}
 use Rattle.document.specs.Lent.{lent, lentWritten, lentWrittenInto, lentRan, lentRanInto, lentNeeding, lentPadding, lentJudged, WritesInto, RunsInto}
 use Rattle.document.specs.Reading.{blanks}
 use Rattle.document.specs.Routine.{Routine, wellFormed, routineOf, recordsFit}
 use Rattle.document.specs.Running.{ran, ranInto, runRefusal}
 use Rattle.document.specs.Writing.{written, writtenInto, writeRefusal}
-use Rattle.document.specs.declared.Judged.{Judged}
-use Rattle.document.specs.declared.Needed.{Needed}
-use Rattle.document.specs.declared.Padded.{Padded}
-use Rattle.document.specs.declared.ProbeSet.{ProbeSet}
-use Rattle.document.specs.declared.Ran.{Ran}
-use Rattle.document.specs.declared.Refusal.the-variants as No
-use Rattle.document.specs.declared.Wire.{Wire}
-use Rattle.document.specs.declared.Shape.{Shape}
-use Rattle.document.specs.declared.Written.{Written}
+use Rattle.data.specs.declared.Judged.{Judged}
+use Rattle.data.specs.declared.Needed.{Needed}
+use Rattle.data.specs.declared.Padded.{Padded}
+use Rattle.data.specs.declared.ProbeSet.{ProbeSet}
+use Rattle.data.specs.declared.Ran.{Ran}
+use Rattle.data.specs.declared.Refusal.the-variants as No
+use Rattle.data.specs.declared.Wire.{Wire}
+use Rattle.data.specs.declared.Shape.{Shape}
+use Rattle.data.specs.declared.Written.{Written}
 use Rattle.records.specs.Laws.Fitting.{fit-of, share-number}
 use Rattle.records.specs.Records.{recordAt}
 use Rattle.copies.specs.First.{fetched, clipped, firstOf}

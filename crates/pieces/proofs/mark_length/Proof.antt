@@ -4,7 +4,7 @@ use mathlib.Core.Path.{sym, ap, _∙_}
 use native.Mathlib.Omega.{arith}
 use borrow.Author.Needs.{needs}
 use lib.ListN.{length}
-use Rattle.document.specs.declared.Word.the-variants as W
+use Rattle.data.specs.declared.Word.the-variants as W
 use Rattle.document.specs.Lines.{spelled}
 use Rattle.pieces.specs.Pieces.{ofMark}
 use Rattle.pieces.specs.Laws.Lengths.{line1-long}

@@ -4,7 +4,7 @@ use Prim.Native.Nat.{_≤_}
 use native.Mathlib.Omega.{arith}
 use borrow.Author.Needs.{needs}
 use lib.ListN.{length, length-take}
-use Rattle.document.specs.ProbeSets.{held}
+use Rattle.data.specs.ProbeSets.{held}
 use Rattle.printer.specs.Laws.Lines.{answer-line-is}
 use Rattle.printer.specs.Laws.Rooms.{verdict-few}
 use Rattle.buffer.specs.Laws.Puts.{put-long, put-then, put-same}

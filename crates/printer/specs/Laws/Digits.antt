@@ -5,12 +5,13 @@ use mathlib.Core.List.{List, [], _∷_, _++_}
 use Prim.Native.Nat.{ℕ, zero, suc, _+_, _*_, _/_, _%_, _^_, _≤_, _<_}
 use native.Mathlib.Nat.{pow-suc, div-lt-iff-lt-mul}
 use native.Mathlib.Omega.{arith}
-use borrow.Author.Tests.{lt-ltb, le-ltb}
+use borrow.Author.Tests.{lt-ltb}
 use lib.Dec.{ltb}
 use lib.ListN.{length, length-append}
-use Rattle.document.specs.Laws.Tests.{cond-cases}
+use Rattle.data.specs.Laws.Tests.{cond-cases}
 use Rattle.document.specs.Lines.{digitZero}
 use Rattle.document.specs.Desk.{digits, printed}
+use Rattle.document.specs.Laws.Printed.{digits-low, digits-high}
 
 -- a number below ten to the k has no more than k digits
 digits-enough : (k n : ℕ) → n < 10 ^ suc k → digits (suc (suc k)) n ≡ digits (suc k) n
@@ -22,17 +23,12 @@ digits-enough (suc k) n h =
     ap (λ (v : List ℕ). cond (ltb n 10) ((digitZero + n) ∷ []) (v ++ ((digitZero + n % 10) ∷ []))) (digits-enough k (n / 10) (div-lt-iff-lt-mul z .1 p))
 
 pub printed-one : (n : ℕ) → n < 10 → printed n ≡ (digitZero + n) ∷ []
-unfolding digits
-printed-one n h = simp (lt-ltb n 10 h)
-
-digits-last : (k n : ℕ) → 10 ≤ n → digits (suc k) n ≡ digits k (n / 10) ++ ((digitZero + n % 10) ∷ [])
-unfolding digits
-digits-last k n l = simp (le-ltb n 10 l)
+printed-one n h = digits-low 19 n h
 
 pub printed-more : (n : ℕ) → 10 ≤ n → n < 2 ^ 64 → printed n ≡ printed (n / 10) ++ ((digitZero + n % 10) ∷ [])
 printed-more n l h =
     let z : n / 10 < 10 ^ 19 = omega arith in
-    digits-last 19 n l ∙ ap (λ (v : List ℕ). v ++ ((digitZero + n % 10) ∷ [])) (sym (digits-enough 18 (n / 10) z))
+    digits-high 19 n l ∙ ap (λ (v : List ℕ). v ++ ((digitZero + n % 10) ∷ [])) (sym (digits-enough 18 (n / 10) z))
 
 digits-few : (k n : ℕ) → length (digits k n) ≤ k
 unfolding digits

@@ -8,14 +8,14 @@ use lib.ListN.{length, take, getD}
 use borrow.Author.Tests.{leb-false}
 use lib.Dec.{leb}
 use lib.Seq.{take-suc, take-all}
-use Rattle.document.specs.Laws.Tests.{bool-cases, leb-true}
+use Rattle.data.specs.Laws.Tests.{bool-cases, leb-true}
 use Rattle.document.specs.Lines.{lf, join}
-use Rattle.document.specs.ProbeSets.{held}
-use Rattle.document.specs.Refusals.{numberOf}
+use Rattle.data.specs.ProbeSets.{held}
+use Rattle.data.specs.Refusals.{numberOf}
 use Rattle.document.specs.Desk.{printed, space, printedLine, refusedWord, passWord, openWord, verdictFields, answerLine}
-use Rattle.document.specs.declared.Refusal.{Refusal}
-use Rattle.document.specs.declared.Verdict.the-variants as Says
-use Rattle.document.specs.declared.Judged.{Judged}
+use Rattle.data.specs.declared.Refusal.{Refusal}
+use Rattle.data.specs.declared.Verdict.the-variants as Says
+use Rattle.data.specs.declared.Judged.{Judged}
 use Rattle.printer.specs.Fields.{spaced, numberField, wireFields, refusedLine}
 
 join-spaced : (f : List ℕ) (fs : List (List ℕ)) → join space (f ∷ fs) ≡ f ++ spaced fs

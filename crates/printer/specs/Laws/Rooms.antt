@@ -1,16 +1,15 @@
 -- No printed field or line takes more than its room.
-use mathlib.Core.Path.{_≡_}
 use mathlib.Core.List.{List, [], _∷_, _++_}
 use Prim.Native.Nat.{ℕ, _+_, _*_, _≤_}
 use native.Mathlib.Omega.{arith}
 use lib.ListN.{length, length-append, length-take}
-use Rattle.document.specs.ProbeSets.{held}
-use Rattle.document.specs.Refusals.{numberOf}
+use Rattle.data.specs.ProbeSets.{held}
+use Rattle.data.specs.Refusals.{numberOf}
 use Rattle.document.specs.Desk.{printed, verdictFields, answerLine}
-use Rattle.document.specs.declared.Refusal.{Refusal}
-use Rattle.document.specs.declared.Verdict.{Verdict}
-use Rattle.document.specs.declared.Verdict.the-variants as Says
-use Rattle.document.specs.declared.Judged.{Judged}
+use Rattle.data.specs.declared.Refusal.{Refusal}
+use Rattle.data.specs.declared.Verdict.{Verdict}
+use Rattle.data.specs.declared.Verdict.the-variants as Says
+use Rattle.data.specs.declared.Judged.{Judged}
 use Rattle.buffer.specs.Put.{Put}
 use Rattle.printer.specs.Fields.{spaced, numberField, wireFields, refusedLine}
 use Rattle.printer.specs.Rooms.{numberRoom, countedRoom, verdictRoom, wordRoom, answerRoom, refusedRoom}

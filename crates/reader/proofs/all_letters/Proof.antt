@@ -7,7 +7,7 @@ use borrow.Author.Tests.{not-true, not-false}
 use lib.ListN.{length, drop}
 use native.Mathlib.Omega.{arith}
 use Rattle.document.specs.Reading.{letter}
-use Rattle.document.specs.Basics.{each}
+use Rattle.data.specs.Basics.{each}
 use Rattle.reader.proofs.TextLaws.{letters-step, letters-end}
 use Rattle.reader.proofs.all_letters.Statement.{statement}
 use Rattle.reader.proofs.all_letters.Tie as tie

@@ -1,7 +1,7 @@
 -- `reader::from_range` meets its contract: 4.
 use mathlib.Core.Path.{sym, _∙_, ap}
 use lib.ListN.{drop}
-use Rattle.document.specs.declared.State.{State}
+use Rattle.data.specs.declared.State.{State}
 use Rattle.document.specs.Reading.{readLines}
 use Rattle.document.specs.Lines.{linesIn}
 use Rattle.reader.proofs.TextLaws.{begun-bounded}

@@ -3,7 +3,7 @@ use mathlib.Core.Path.{sym, _∙_, ap}
 use Prim.Native.Nat.{_+_}
 use lib.ListN.{drop}
 use borrow.Author.Tests.{not-true, not-false}
-use Rattle.document.specs.declared.Line.{Line}
+use Rattle.data.specs.declared.Line.{Line}
 use Rattle.document.specs.Reading.{fromHeader}
 use Rattle.document.specs.Lines.{lineOf, linesIn}
 use Rattle.reader.proofs.TextLaws.{read-none, read-long, read-byte, read-end, read-on, first-none, first-some}

@@ -7,8 +7,8 @@ use borrow.Author.Needs.{needs}
 use lib.ListN.{set}
 use native.Mathlib.Omega.{arith}
 use native.Mathlib.Nat.{div-le-self, mod-lt}
-use Rattle.document.specs.declared.Wire.{Wire}
-use Rattle.document.specs.declared.Kind.the-variants as K
+use Rattle.data.specs.declared.Wire.{Wire}
+use Rattle.data.specs.declared.Kind.the-variants as K
 use Rattle.document.specs.Reading.{shareRecords}
 use Rattle.reader.proofs.TextLaws.{shares-next}
 use Rattle.reader.proofs.share_records.Statement.{statement}

@@ -3,7 +3,7 @@ use mathlib.Core.Path.{_≡_, sym, _∙_}
 use mathlib.Core.List.{List}
 use Prim.Native.Nat.{ℕ}
 use Rattle.document.specs.Reading.{reading}
-use Rattle.document.specs.declared.Read.{Read}
+use Rattle.data.specs.declared.Read.{Read}
 
 pub read-once : (text : List ℕ) {r q : Read} → r ≡ reading text → q ≡ reading text → r ≡ q
 read-once text e f = e ∙ sym f

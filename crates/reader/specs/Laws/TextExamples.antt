@@ -5,18 +5,18 @@ use Prim.Native.Nat.{ℕ, zero, suc}
 use Prim.Native.Char.{code}
 use Prim.Native.String.{String, [] as none, _∷_ as _then_}
 use lib.ListN.{replicate}
-use Rattle.document.specs.Basics.{same, each}
-use Rattle.document.specs.Refusals.{numberOf}
+use Rattle.data.specs.Basics.{same, each}
+use Rattle.data.specs.Refusals.{numberOf}
 use Rattle.document.specs.Routine.{inRange, operandsOf}
 use Rattle.document.specs.Lines.{cut, front, heads, join, number, decimal, wordOf, ofFields, textOfLines}
 use Rattle.document.specs.Reading.{made, marked, isNext, earlier, hasRoom, make, markOut, takeLine, whole-reading}
 use Rattle.document.specs.Reading.{blanks, readLines, shareRecords, begun, fromHeader, fromFirst, reading, routineIn}
 use Rattle.document.specs.Examples.{exampleA}
-use Rattle.document.specs.declared.Line.{Line}
-use Rattle.document.specs.declared.Line.the-variants.{Head, Rand, Pub, Not, Out}
-use Rattle.document.specs.declared.Outcome.{Outcome}
-use Rattle.document.specs.declared.Outcome.the-variants.{Done, Refused}
-use Rattle.document.specs.declared.Read.{Read}
+use Rattle.data.specs.declared.Line.{Line}
+use Rattle.data.specs.declared.Line.the-variants.{Head, Rand, Pub, Not, Out}
+use Rattle.data.specs.declared.Outcome.{Outcome}
+use Rattle.data.specs.declared.Outcome.the-variants.{Done, Refused}
+use Rattle.data.specs.declared.Read.{Read}
 
 unfoldable pub bytes : String → List ℕ
 bytes none = []

@@ -4,7 +4,7 @@ use mathlib.Core.Path.{_≡_, sym, ap, _∙_}
 use Prim.Native.Nat.{ℕ, _-_, _≤_}
 use native.Mathlib.Omega.{arith}
 use borrow.Author.Needs.{needs}
-use Rattle.document.specs.Basics.{all}
+use Rattle.data.specs.Basics.{all}
 use Rattle.records.specs.Laws.Counts.{all-none, all-more}
 use Rattle.records.specs.Records.{recordAt, fitsAt}
 use Rattle.records.proofs.all_fit.Statement.{statement}

@@ -4,7 +4,7 @@ use native.Mathlib.Omega.{arith}
 use borrow.Author.Tests.{not-true, not-false}
 use borrow.Author.Needs.{needs}
 use lib.ListN.{length}
-use Rattle.document.proofs.Listings.{listing-long}
+use Rattle.data.proofs.Listings.{listing-long}
 use Rattle.records.specs.Laws.Counts.{in-range, too-long, range-fails, shares-fail, ceilings-fail, rest-fits}
 use Rattle.records.specs.Records.{ceilingsMet}
 use Rattle.records.proofs.records_fit.Statement.{statement}

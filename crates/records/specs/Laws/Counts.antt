@@ -10,14 +10,14 @@ use borrow.Author.Tests.{leb-true, le-leb, lt-leb}
 use lib.Dec.{leb}
 use lib.ListN.{length}
 use lib.Seq.{getD-take, length-take-le}
-use Rattle.document.specs.Basics.{tally, all}
+use Rattle.data.specs.Basics.{tally, all}
 use Rattle.document.specs.Routine.{wire, blank, isRand, isPub, randsBefore, pubsBefore, outputs, inRange, fits, record-fits, ceilings, wellFormed, routineOf}
 use Rattle.document.specs.Routine.{recordsFit}
-use Rattle.document.specs.Laws.Tests.{and-l, and-r, tally-ext, tally-max}
-use Rattle.document.specs.declared.Kind.{Kind}
-use Rattle.document.specs.declared.Kind.the-variants.{Share, Rand, Pub, Xor, And, Not}
-use Rattle.document.specs.declared.Wire.{Wire}
-use Rattle.document.specs.declared.Shape.{Shape}
+use Rattle.data.specs.Laws.Tests.{and-l, and-r, tally-ext, tally-max}
+use Rattle.data.specs.declared.Kind.{Kind}
+use Rattle.data.specs.declared.Kind.the-variants.{Share, Rand, Pub, Xor, And, Not}
+use Rattle.data.specs.declared.Wire.{Wire}
+use Rattle.data.specs.declared.Shape.{Shape}
 use Rattle.records.specs.Records.{recordAt, countsOf, withRecord, Room, ceilingsMet, Ranged, fitsAt}
 
 -- ---- the counts, record by record

@@ -9,13 +9,13 @@ use borrow.Author.Tests.{leb-true, ltb-true, ltb-false, eqb-true}
 use lib.Dec.{eqb, ltb, leb}
 use lib.ListN.{length, take}
 use lib.Seq.{length-take-le}
-use Rattle.document.specs.Basics.{all}
+use Rattle.data.specs.Basics.{all}
 use Rattle.document.specs.Routine.{inRange, fits, routineOf, wellFormed, recordsFit}
-use Rattle.document.specs.Laws.Tests.{bool-cases, and-l, and-r, all-at}
-use Rattle.document.specs.declared.Kind.{Kind}
-use Rattle.document.specs.declared.Kind.the-variants.{Share, Rand, Pub, Xor, And, Not}
-use Rattle.document.specs.declared.Wire.{Wire}
-use Rattle.document.specs.declared.Shape.{Shape}
+use Rattle.data.specs.Laws.Tests.{bool-cases, and-l, and-r, all-at}
+use Rattle.data.specs.declared.Kind.{Kind}
+use Rattle.data.specs.declared.Kind.the-variants.{Share, Rand, Pub, Xor, And, Not}
+use Rattle.data.specs.declared.Wire.{Wire}
+use Rattle.data.specs.declared.Shape.{Shape}
 use Rattle.records.specs.Records.{Fit, recordAt, countsOf, Ranged, fitsAt}
 use Rattle.records.specs.Laws.Counts.{in-range, fit-is}
 

@@ -4,8 +4,8 @@ use mathlib.Core.Bool.{Bool}
 use mathlib.Core.List.{List}
 use Prim.Native.Nat.{ℕ}
 use Rattle.document.specs.Routine.{recordsFit}
-use Rattle.document.specs.declared.Wire.{Wire}
-use Rattle.document.specs.declared.Shape.{Shape}
+use Rattle.data.specs.declared.Wire.{Wire}
+use Rattle.data.specs.declared.Shape.{Shape}
 
 pub fit-once : (σ : Shape) (ws : List Wire) {q r : Bool} → q ≡ recordsFit σ ws → r ≡ recordsFit σ ws → q ≡ r
 fit-once σ ws e f = e ∙ sym f

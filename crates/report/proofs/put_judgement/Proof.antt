@@ -1,6 +1,6 @@
 -- `report::put_judgement` meets its contract: what the judgement answers, behind its word.
 use borrow.Author.Needs.{needs}
-use Rattle.document.specs.declared.Which.the-variants.{Plain, Strong}
+use Rattle.data.specs.declared.Which.the-variants.{Plain, Strong}
 use Rattle.buffer.specs.Laws.Puts.{put-same}
 use Rattle.report.specs.Laws.Orders.{line-is-judged}
 use Rattle.report.proofs.put_judgement.Statement.{statement}

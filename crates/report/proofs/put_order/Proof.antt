@@ -2,7 +2,7 @@
 use native.Mathlib.Omega.{arith}
 use borrow.Author.Needs.{needs}
 use Rattle.document.specs.Routine.{routineOf}
-use Rattle.document.specs.declared.Which.the-variants.{Plain}
+use Rattle.data.specs.declared.Which.the-variants.{Plain}
 use Rattle.buffer.specs.Laws.Puts.{put-long, put-then}
 use Rattle.report.specs.Orders.{orderPair}
 use Rattle.report.specs.Laws.Rooms.{line-ends}

@@ -2,7 +2,6 @@
 use mathlib.Core.Path.{_≡_}
 use mathlib.Core.List.{List}
 use Prim.Native.Nat.{ℕ}
-use Rattle.document.specs.Desk.{deskPrints}
 use Rattle.buffer.specs.Laws.Beginning.{begins-once}
 use Rattle.report.specs.Reports.{Reported}
 

@@ -11,15 +11,15 @@ use Rattle.document.specs.Reading.{reading, routineIn}
 use Rattle.document.specs.Judgements.{Judgement, judged, judgementOf}
 use Rattle.document.specs.Lent.{lent, lentJudged}
 use Rattle.document.specs.Desk.{answerLine, orderLines, routineLines, textLines}
-use Rattle.document.specs.declared.Wire.{Wire}
-use Rattle.document.specs.declared.Shape.{Shape}
-use Rattle.document.specs.declared.Judged.{Judged}
-use Rattle.document.specs.declared.Read.{Read}
-use Rattle.document.specs.declared.Outcome.{Outcome}
-use Rattle.document.specs.declared.Outcome.the-variants.{Done, Refused}
-use Rattle.document.specs.declared.Refusal.{Refusal}
-use Rattle.document.specs.declared.Which.{Which}
-use Rattle.document.specs.declared.Which.the-variants.{Plain, Strong}
+use Rattle.data.specs.declared.Wire.{Wire}
+use Rattle.data.specs.declared.Shape.{Shape}
+use Rattle.data.specs.declared.Judged.{Judged}
+use Rattle.data.specs.declared.Read.{Read}
+use Rattle.data.specs.declared.Outcome.{Outcome}
+use Rattle.data.specs.declared.Outcome.the-variants.{Done, Refused}
+use Rattle.data.specs.declared.Refusal.{Refusal}
+use Rattle.data.specs.declared.Which.{Which}
+use Rattle.data.specs.declared.Which.the-variants.{Plain, Strong}
 use Rattle.printer.specs.Fields.{refusedLine}
 use Rattle.roundtrip.specs.TextTheorems.{text-whole}
 use Rattle.report.specs.Orders.{judgementWord, judgementLine, orderPair}

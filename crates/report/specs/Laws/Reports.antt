@@ -6,7 +6,7 @@ use native.Mathlib.Omega.{arith}
 use lib.ListN.{length}
 use Rattle.document.specs.Reading.{reading}
 use Rattle.document.specs.Desk.{textLines, deskPrints}
-use Rattle.document.specs.declared.Read.{Read}
+use Rattle.data.specs.declared.Read.{Read}
 use Rattle.buffer.specs.Put.{Put, wrote}
 use Rattle.buffer.specs.Laws.Puts.{wrote-first}
 use Rattle.report.specs.Orders.{reportRoom}

@@ -1,23 +1,22 @@
 -- What is printed takes no more than its room.
-use mathlib.Core.Path.{_≡_}
 use mathlib.Core.Bool.{Bool, cond}
 use mathlib.Core.List.{List, [], _∷_, _++_}
 use Prim.Native.Nat.{ℕ, zero, suc, _+_, _-_, _*_, _≤_, min}
 use native.Mathlib.Omega.{arith}
 use lib.ListN.{length, replicate, length-append, length-take}
-use Rattle.document.specs.Laws.Tests.{cond-cases}
+use Rattle.data.specs.Laws.Tests.{cond-cases}
 use Rattle.document.specs.Routine.{Routine, wellFormed}
 use Rattle.document.specs.Reading.{reading, routineIn}
-use Rattle.document.specs.ProbeSets.{setOf}
+use Rattle.data.specs.ProbeSets.{setOf}
 use Rattle.document.specs.Judgements.{Judgement, isOpen, setsJudged, firstOpen, judgement, judged, judgedNot, opened, orderFits, judgementOf}
 use Rattle.document.specs.Desk.{plainWord, strongWord, orderLines, routineLines, textLines, deskPrints}
-use Rattle.document.specs.declared.Judged.{Judged}
-use Rattle.document.specs.declared.Read.{Read}
-use Rattle.document.specs.declared.Outcome.{Outcome}
-use Rattle.document.specs.declared.Outcome.the-variants.{Done, Refused}
-use Rattle.document.specs.declared.Refusal.the-variants as No
-use Rattle.document.specs.declared.Which.{Which}
-use Rattle.document.specs.declared.Which.the-variants.{Plain, Strong}
+use Rattle.data.specs.declared.Judged.{Judged}
+use Rattle.data.specs.declared.Read.{Read}
+use Rattle.data.specs.declared.Outcome.{Outcome}
+use Rattle.data.specs.declared.Outcome.the-variants.{Done, Refused}
+use Rattle.data.specs.declared.Refusal.the-variants as No
+use Rattle.data.specs.declared.Which.{Which}
+use Rattle.data.specs.declared.Which.the-variants.{Plain, Strong}
 use Rattle.buffer.specs.Put.{Put}
 use Rattle.printer.specs.Rooms.{answerRoom}
 use Rattle.printer.specs.Laws.Rooms.{answer-few, refused-few}

@@ -1,50 +1,17 @@
--- Cutting a list of bytes into parts and joining the parts undo each other.
+-- Joining the parts of a list of bytes undoes the cutting, and a text is its lines.
 use mathlib.Core.Path.{_≡_, refl, sym, ap, ap₂, _∙_}
-use mathlib.Core.Bool.{Bool, true, false, not, _&&_, cond}
+use mathlib.Core.Bool.{Bool, true, false, cond}
 use mathlib.Core.List.{List, [], _∷_, _++_}
 use Prim.Native.Nat.{ℕ, suc, _-_, _<_}
 use native.Mathlib.Omega.{arith}
 use lib.Dec.{eqb}
 use lib.ListN.{length, getD}
-use borrow.Author.Tests.{eqb-true, eq-eqb, not-true}
+use borrow.Author.Tests.{eqb-true, eq-eqb}
 use Rattle.document.specs.Lines.{cut, front, heads, join, lf}
-use Rattle.document.specs.Laws.Cuts.{firstPart, laterParts, cut-some}
-use Rattle.roundtrip.specs.Laws.Tests.{both}
+use Rattle.data.specs.Laws.Tests.{both}
+use Rattle.document.specs.Laws.Cuts.{firstPart, laterParts, cut-some, free, frees, cut-first}
 
 -- ---- fields
-
--- no s in xs
-unfoldable pub free : ℕ → List ℕ → Bool
-free s [] = true
-free s (x ∷ xs) = not (eqb x s) && free s xs
-
--- no s in any part
-unfoldable pub frees : ℕ → List (List ℕ) → Bool
-frees s [] = true
-frees s (p ∷ ps) = free s p && frees s ps
-
-pub free-append : (s : ℕ) (xs ys : List ℕ) → free s xs ≡ true → free s ys ≡ true → free s (xs ++ ys) ≡ true
-unfolding free
-free-append s [] ys h k = k
-free-append s (x ∷ xs) ys h k = let t = both (not (eqb x s)) (free s xs) h in rw (t .0) (free-append s xs ys (t .1) k)
-
--- a separator ends the first part
-pub cut-first : (s : ℕ) (p ys : List ℕ) → free s p ≡ true → cut s (p ++ s ∷ ys) ≡ p ∷ cut s ys
-unfolding free cut front
-cut-first s [] ys h = simp (eq-eqb s s refl)
-cut-first s (x ∷ p) ys h = let t = both (not (eqb x s)) (free s p) h in simp (not-true (eqb x s) (t .0), cut-first s p ys (t .1))
-
-cut-only : (s : ℕ) (p : List ℕ) → free s p ≡ true → cut s p ≡ p ∷ []
-unfolding free cut front
-cut-only s [] h = refl
-cut-only s (x ∷ p) h = let t = both (not (eqb x s)) (free s p) h in simp (not-true (eqb x s) (t .0), cut-only s p (t .1))
-
-pub cut-join : (s : ℕ) (p : List ℕ) (ps : List (List ℕ)) → frees s (p ∷ ps) ≡ true → cut s (join s (p ∷ ps)) ≡ p ∷ ps
-unfolding frees join
-cut-join s p [] h = cut-only s p (both (free s p) true h .0)
-cut-join s p (q ∷ ps) h =
-    let t = both (free s p) (frees s (q ∷ ps)) h in
-    cut-first s p (join s (q ∷ ps)) (t .0) ∙ ap (λ (l : List (List ℕ)). p ∷ l) (cut-join s q ps (t .1))
 
 join-front : (s x : ℕ) (q : List ℕ) (qs : List (List ℕ)) → join s ((x ∷ q) ∷ qs) ≡ x ∷ join s (q ∷ qs)
 unfolding join

@@ -8,19 +8,18 @@ use native.Mathlib.Nat.{suc-mul, mul-le-mul-right}
 use lib.Dec.{leb, eqb, ltb}
 use lib.ListN.{length, length-append}
 use borrow.Author.Tests.{leb-true, eqb-true, ltb-true, lt-ltb, le-leb, eq-eqb}
-use Rattle.document.specs.declared.Kind.{Kind}
-use Rattle.document.specs.declared.Kind.the-variants as K
-use Rattle.document.specs.declared.Line.{Line}
-use Rattle.document.specs.declared.Line.the-variants as L
-use Rattle.document.specs.Basics.{each, all}
+use Rattle.data.specs.declared.Kind.{Kind}
+use Rattle.data.specs.declared.Kind.the-variants as K
+use Rattle.data.specs.declared.Line.{Line}
+use Rattle.data.specs.declared.Line.the-variants as L
+use Rattle.data.specs.Basics.{each, all}
 use Rattle.document.specs.Routine.{Routine, size, wire, randsBefore, pubsBefore, outputs, inRange, fits, record-fits, ceilings, wellFormed, operandsOf}
 use Rattle.document.specs.Lines.{lineText, textOfLines, lf}
-use Rattle.document.specs.declared.State.{State}
+use Rattle.data.specs.declared.State.{State}
 use Rattle.document.specs.Reading.{earlier, make, takeLine}
 use Rattle.document.specs.Writing.{lineOfKind, wireLine, wireLines, outLines, linesOf, textOf}
-use Rattle.document.specs.Laws.Tests.{and-i, all-at, all-of}
+use Rattle.data.specs.Laws.Tests.{both, and-i, all-at, all-of}
 use Rattle.roundtrip.specs.Texts.{Below, Writable, Each}
-use Rattle.roundtrip.specs.Laws.Tests.{both}
 use Rattle.roundtrip.specs.Laws.Forms.{below-more}
 use Rattle.roundtrip.specs.Laws.LineTexts.{each-lines, text-append, line-short, out-short}
 

@@ -6,16 +6,16 @@ use Prim.Native.Nat.{ℕ, _+_, _-_, _*_, _/_, _%_, _≤_, _<_}
 use native.Mathlib.Omega.{arith}
 use lib.Dec.{leb, eqb, ltb}
 use borrow.Author.Tests.{leb-true, eqb-true, ltb-true, ltb-false, lt-ltb, le-ltb, le-leb}
-use Rattle.document.specs.declared.Line.{Line}
-use Rattle.document.specs.declared.Line.the-variants as L
-use Rattle.document.specs.declared.Word.{Word}
-use Rattle.document.specs.declared.Word.the-variants as W
-use Rattle.document.specs.declared.Number.{Number}
-use Rattle.document.specs.declared.Number.the-variants.{Is, Bad}
-use Rattle.document.specs.Basics.{same}
+use Rattle.data.specs.declared.Line.{Line}
+use Rattle.data.specs.declared.Line.the-variants as L
+use Rattle.data.specs.declared.Word.{Word}
+use Rattle.data.specs.declared.Word.the-variants as W
+use Rattle.data.specs.declared.Number.{Number}
+use Rattle.data.specs.declared.Number.the-variants.{Is, Bad}
+use Rattle.data.specs.Basics.{same}
 use Rattle.document.specs.Lines.{number, decimal, digit, lead, spelled, wordOf, of1, of2, of3, ofFields, fieldsOf, digitZero, digitOne, digitNine}
+use Rattle.data.specs.Laws.Tests.{both}
 use Rattle.roundtrip.specs.Texts.{Below, Writable}
-use Rattle.roundtrip.specs.Laws.Tests.{both}
 
 -- ---- numbers
 

@@ -7,16 +7,16 @@ use Prim.Native.Nat.{ℕ, zero, suc, _+_, _-_, _*_, _≤_, _<_}
 use native.Mathlib.Omega.{arith}
 use lib.ListN.{getD, set, length-append, length-set, List·getD-append}
 use lib.Seq.{getD-append-seam, getD-set-same, getD-set-other}
-use Rattle.document.specs.declared.Kind.{Kind}
-use Rattle.document.specs.declared.Kind.the-variants as K
-use Rattle.document.specs.declared.Wire.{Wire}
-use Rattle.document.specs.declared.Line.{Line}
-use Rattle.document.specs.declared.Line.the-variants as L
-use Rattle.document.specs.Basics.{one, tally}
+use Rattle.data.specs.declared.Kind.{Kind}
+use Rattle.data.specs.declared.Kind.the-variants as K
+use Rattle.data.specs.declared.Wire.{Wire}
+use Rattle.data.specs.declared.Line.{Line}
+use Rattle.data.specs.declared.Line.the-variants as L
+use Rattle.data.specs.Basics.{one, tally}
 use Rattle.document.specs.Routine.{Routine, size, wire, blank, isRand, isPub, randsBefore, pubsBefore, outputs, fits, record-fits}
 use Rattle.document.specs.Reading.{withMark}
 use Rattle.document.specs.Writing.{lineOfKind, wireLine, wireLines, outLines, linesOf}
-use Rattle.document.specs.Laws.Tests.{wire-cases, tally-ext}
+use Rattle.data.specs.Laws.Tests.{wire-cases, tally-ext}
 use Rattle.roundtrip.specs.Laws.Tests.{tally-one}
 use Rattle.roundtrip.specs.Laws.Formed.{Formed, Made, made-fits, wire-fits}
 

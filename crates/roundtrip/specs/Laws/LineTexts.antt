@@ -8,16 +8,16 @@ use lib.Dec.{leb, ltb}
 use lib.ListN.{length, getD, length-append}
 use lib.Seq.{getD-append-add}
 use borrow.Author.Tests.{leb-true, ltb-true, ltb-false, le-leb, ne-eqb}
-use Rattle.document.specs.declared.Line.{Line}
-use Rattle.document.specs.declared.Line.the-variants as L
-use Rattle.document.specs.Basics.{each}
+use Rattle.data.specs.declared.Line.{Line}
+use Rattle.data.specs.declared.Line.the-variants as L
+use Rattle.data.specs.Basics.{each}
 use Rattle.document.specs.Lines.{cut, join, decimal, ofFields, lineOf, linesIn, fieldsOf, lineText, textOfLines, tab, lf, digitZero, digitNine}
 use Rattle.document.specs.Reading.{letter, letterA, letterZ}
-use Rattle.document.specs.Laws.Tests.{and-i}
+use Rattle.data.specs.Laws.Tests.{both, and-i}
+use Rattle.document.specs.Laws.Cuts.{free, frees, cut-join, join-free}
 use Rattle.roundtrip.specs.Texts.{Writable, Each}
-use Rattle.roundtrip.specs.Laws.Tests.{both}
 use Rattle.roundtrip.specs.Laws.Forms.{below-some, fields-line, line-fields}
-use Rattle.roundtrip.specs.Laws.Cuts.{free, frees, free-append, cut-join, join-cut, ended, heads-ended}
+use Rattle.roundtrip.specs.Laws.Cuts.{join-cut, ended, heads-ended}
 
 -- ---- bytes
 
@@ -100,13 +100,6 @@ plains-line (L.And w a b) h = simp (plain-decimal w (h .0), plain-decimal a (h .
 plains-line (L.Not w a) h = simp (plain-decimal w (h .0), plain-decimal a (h .1))
 plains-line (L.Out w) h = simp (plain-decimal w h)
 
-join-free : (p : List ℕ) (ps : List (List ℕ)) → fieldBytes (p ∷ ps) ≡ true → free lf (join tab (p ∷ ps)) ≡ true
-unfolding fieldBytes join free
-join-free p [] h = free-plain lf p (omega arith) (both (each fieldByte p) true h .0)
-join-free p (q ∷ ps) h =
-    let t = both (each fieldByte p) (fieldBytes (q ∷ ps)) h in
-    free-append lf p (tab ∷ join tab (q ∷ ps)) (free-plain lf p (omega arith) (t .0)) (join-free q ps (t .1))
-
 join-letters : (p : List ℕ) (ps : List (List ℕ)) → fieldBytes (p ∷ ps) ≡ true → each letter (join tab (p ∷ ps)) ≡ true
 unfolding fieldBytes join each
 join-letters p [] h = letters-plain p (both (each fieldByte p) true h .0)
@@ -126,7 +119,7 @@ written-fields p ps l e h =
     let parted = cut-join tab p ps (frees-plains tab (p ∷ ps) (omega arith) g) in
     record {
       back = ap ofFields (ap (λ (f : List (List ℕ)). cut tab (join tab f)) e ∙ parted ∙ sym e) ∙ line-fields l h;
-      no-lf = ap (λ (f : List (List ℕ)). free lf (join tab f)) e ∙ join-free p ps g;
+      no-lf = ap (λ (f : List (List ℕ)). free lf (join tab f)) e ∙ join-free lf tab (p ∷ ps) refl (frees-plains lf (p ∷ ps) (omega arith) g);
       typed = ap (λ (f : List (List ℕ)). each letter (join tab f)) e ∙ join-letters p ps g;
     }
 

@@ -8,23 +8,23 @@ use lib.Dec.{leb, eqb, ltb}
 use lib.ListN.{length, getD, replicate}
 use lib.Seq.{take-append-seam}
 use borrow.Author.Tests.{eqb-true, ltb-true}
-use Rattle.document.specs.declared.Wire.{Wire}
-use Rattle.document.specs.declared.Line.{Line}
-use Rattle.document.specs.declared.Line.the-variants as L
-use Rattle.document.specs.declared.Refusal.{Refusal}
-use Rattle.document.specs.declared.Refusal.the-variants as No
-use Rattle.document.specs.declared.Outcome.{Outcome}
-use Rattle.document.specs.declared.Outcome.the-variants.{Done, Refused}
-use Rattle.document.specs.declared.State.{State}
-use Rattle.document.specs.declared.Read.{Read}
-use Rattle.document.specs.Laws.Tests.{wire-cases}
-use Rattle.document.specs.Basics.{each}
+use Rattle.data.specs.declared.Wire.{Wire}
+use Rattle.data.specs.declared.Line.{Line}
+use Rattle.data.specs.declared.Line.the-variants as L
+use Rattle.data.specs.declared.Refusal.{Refusal}
+use Rattle.data.specs.declared.Refusal.the-variants as No
+use Rattle.data.specs.declared.Outcome.{Outcome}
+use Rattle.data.specs.declared.Outcome.the-variants.{Done, Refused}
+use Rattle.data.specs.declared.State.{State}
+use Rattle.data.specs.declared.Read.{Read}
+use Rattle.data.specs.Laws.Tests.{both, wire-cases}
+use Rattle.data.specs.Basics.{each}
 use Rattle.document.specs.Routine.{Routine, size, wire, blank, outputs, inRange}
 use Rattle.document.specs.Lines.{cut, heads, linesIn, textOfLines, lf}
 use Rattle.document.specs.Reading.{made, marked, takeLine, notRead, readAll, onward, readLines, begun, fromHeader, fromFirst, letter, reading, routineIn}
 use Rattle.document.specs.Writing.{lineOfKind, linesOf, textOf}
 use Rattle.roundtrip.specs.Texts.{Below, Each, listingFor, readOf}
-use Rattle.roundtrip.specs.Laws.Tests.{both, not-done, none-tally}
+use Rattle.roundtrip.specs.Laws.Tests.{not-done, none-tally}
 use Rattle.roundtrip.specs.Laws.Cuts.{ended-text}
 use Rattle.roundtrip.specs.Laws.LineTexts.{text-lines}
 use Rattle.roundtrip.specs.Laws.Formed.{Formed, Made, lines-below, each-writable}

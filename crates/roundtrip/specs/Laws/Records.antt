@@ -8,10 +8,10 @@ use lib.Dec.{leb}
 use lib.ListN.{length, take, replicate, length-take}
 use lib.Seq.{length-take-le, take-at}
 use borrow.Author.Tests.{leb-true, le-leb}
-use Rattle.document.specs.declared.Wire.{Wire}
-use Rattle.document.specs.declared.Read.{Read}
-use Rattle.document.specs.declared.Shape.{Shape}
-use Rattle.document.specs.Laws.Tests.{and-i, and-l, and-r}
+use Rattle.data.specs.declared.Wire.{Wire}
+use Rattle.data.specs.declared.Read.{Read}
+use Rattle.data.specs.declared.Shape.{Shape}
+use Rattle.data.specs.Laws.Tests.{and-i, and-l, and-r}
 use Rattle.document.specs.Routine.{Routine, size, blank, wellFormed, routineOf, recordsFit}
 use Rattle.document.specs.Reading.{reading, routineIn, CouldBeRead}
 use Rattle.document.specs.Writing.{textOf}

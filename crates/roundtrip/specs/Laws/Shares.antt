@@ -7,11 +7,11 @@ use native.Mathlib.Omega.{arith}
 use lib.ListN.{length, getD, set, length-append, List·getD-append}
 use lib.Seq.{getD-at}
 use borrow.Author.Tests.{lt-ltb, eq-eqb}
-use Rattle.document.specs.declared.Kind.the-variants as K
-use Rattle.document.specs.declared.Wire.{Wire}
-use Rattle.document.specs.declared.Line.{Line}
-use Rattle.document.specs.declared.Line.the-variants as L
-use Rattle.document.specs.Laws.Tests.{and-i, wire-cases}
+use Rattle.data.specs.declared.Kind.the-variants as K
+use Rattle.data.specs.declared.Wire.{Wire}
+use Rattle.data.specs.declared.Line.{Line}
+use Rattle.data.specs.declared.Line.the-variants as L
+use Rattle.data.specs.Laws.Tests.{and-i, wire-cases}
 use Rattle.document.specs.Routine.{Routine, size, wire, blank, isRand, isPub, randsBefore, pubsBefore, outputs, inRange, fits, record-fits}
 use Rattle.document.specs.Reading.{blanks, shareRecords, begun}
 use Rattle.document.specs.Writing.{wireLines, outLines, linesOf}

@@ -8,21 +8,22 @@ use lib.Dec.{leb, eqb, ltb}
 use lib.ListN.{length, getD, set, replicate, length-append, length-set, List·getD-append}
 use lib.Seq.{set-append-seam, set-append-left}
 use borrow.Author.Tests.{leb-true, eqb-true, ltb-true}
-use Rattle.document.specs.declared.Kind.{Kind}
-use Rattle.document.specs.declared.Kind.the-variants as K
-use Rattle.document.specs.declared.Wire.{Wire}
-use Rattle.document.specs.declared.Line.{Line}
-use Rattle.document.specs.declared.Line.the-variants as L
-use Rattle.document.specs.declared.Refusal.{Refusal}
-use Rattle.document.specs.declared.Refusal.the-variants as No
-use Rattle.document.specs.declared.Outcome.the-variants.{Done}
-use Rattle.document.specs.declared.State.{State}
-use Rattle.document.specs.declared.Taken.{Taken}
-use Rattle.document.specs.Basics.{one, each}
+use Rattle.data.specs.declared.Kind.{Kind}
+use Rattle.data.specs.declared.Kind.the-variants as K
+use Rattle.data.specs.declared.Wire.{Wire}
+use Rattle.data.specs.declared.Line.{Line}
+use Rattle.data.specs.declared.Line.the-variants as L
+use Rattle.data.specs.declared.Refusal.{Refusal}
+use Rattle.data.specs.declared.Refusal.the-variants as No
+use Rattle.data.specs.declared.Outcome.the-variants.{Done}
+use Rattle.data.specs.declared.State.{State}
+use Rattle.data.specs.declared.Taken.{Taken}
+use Rattle.data.specs.Basics.{one, each}
 use Rattle.document.specs.Routine.{Routine, size, wire, blank, isRand, isPub, randsBefore, pubsBefore, outputs, operandsOf}
 use Rattle.document.specs.Reading.{taken, notTaken, made, withMark, marked, isNext, earlier, hasRoom, make, markOut, takeLine}
 use Rattle.document.specs.Writing.{lineOfKind}
-use Rattle.roundtrip.specs.Laws.Tests.{both, not-done}
+use Rattle.data.specs.Laws.Tests.{both}
+use Rattle.roundtrip.specs.Laws.Tests.{not-done}
 use Rattle.roundtrip.specs.Laws.Formed.{Made}
 use Rattle.roundtrip.specs.Laws.Growing.{more, size-more, rands-more, pubs-more, outputs-more}
 use Rattle.roundtrip.specs.Laws.Growing.{marking, size-marking, rands-marking, pubs-marking, outputs-marking}

@@ -1,16 +1,13 @@
--- A conjunction taken apart, a refusal told from an answer, and counts of a test that no number passes or one more does.
+-- A refusal told from an answer, and counts of a test that no number passes or one more does.
 use mathlib.Core.Path.{_≡_, refl, ap, _∙_}
-use mathlib.Core.Bool.{Bool, true, false, _&&_}
+use mathlib.Core.Bool.{Bool, true, false}
 use mathlib.Core.Logic.{_≢_}
 use Prim.Native.Nat.{ℕ, zero, suc, _+_, _<_}
 use native.Mathlib.Omega.{arith}
-use Rattle.document.specs.Basics.{one, tally}
-use Rattle.document.specs.Laws.Tests.{and-l, and-r, wire-cases, tally-ext}
-use Rattle.document.specs.declared.Refusal.{Refusal}
-use Rattle.document.specs.declared.Outcome.the-variants.{Done, Refused}
-
-pub both : (x y : Bool) → (x && y) ≡ true → (x ≡ true) × (y ≡ true)
-both x y h = (and-l x y h, and-r x y h)
+use Rattle.data.specs.Basics.{one, tally}
+use Rattle.data.specs.Laws.Tests.{wire-cases, tally-ext}
+use Rattle.data.specs.declared.Refusal.{Refusal}
+use Rattle.data.specs.declared.Outcome.the-variants.{Done, Refused}
 
 -- what is refused is not done
 pub not-done : {X : Type 0} {f : Refusal} → Refused f ≡ Done → X

@@ -9,16 +9,16 @@ use lib.ListN.{length, getD}
 use lib.Seq.{ext-getD}
 use borrow.Author.Tests.{ltb-true, ltb-false, lt-ltb, le-leb, eq-eqb}
 use Rattle.document.specs.Lines.{lf}
-use Rattle.document.specs.declared.Kind.{Kind}
-use Rattle.document.specs.declared.Kind.the-variants as K
-use Rattle.document.specs.declared.Wire.{Wire}
-use Rattle.document.specs.declared.Line.{Line}
-use Rattle.document.specs.declared.Line.the-variants as L
-use Rattle.document.specs.declared.State.{State}
-use Rattle.document.specs.declared.Taken.{Taken}
-use Rattle.document.specs.declared.Read.{Read}
-use Rattle.document.specs.Laws.Tests.{and-i, wire-cases, cond-true, tally-ext, tally-mono, tally-le}
-use Rattle.document.specs.Basics.{one, tally}
+use Rattle.data.specs.declared.Kind.{Kind}
+use Rattle.data.specs.declared.Kind.the-variants as K
+use Rattle.data.specs.declared.Wire.{Wire}
+use Rattle.data.specs.declared.Line.{Line}
+use Rattle.data.specs.declared.Line.the-variants as L
+use Rattle.data.specs.declared.State.{State}
+use Rattle.data.specs.declared.Taken.{Taken}
+use Rattle.data.specs.declared.Read.{Read}
+use Rattle.data.specs.Laws.Tests.{and-i, wire-cases, cond-true, tally-ext, tally-mono, tally-le}
+use Rattle.data.specs.Basics.{one, tally}
 use Rattle.document.specs.Routine.{Routine, size, wire, blank, isRand, isPub, randsBefore, pubsBefore, outputs}
 use Rattle.document.specs.Reading.{taken, made, withMark, marked, isNext, hasRoom, make, markOut, takeLine}
 use Rattle.document.specs.Reading.{readAll, onward, readLines, begun, fromHeader, fromFirst, reading}

@@ -5,7 +5,7 @@ use native.Mathlib.Omega.{arith}
 use borrow.Author.Needs.{needs}
 use lib.ListN.{length, take, drop}
 use lib.Dec.{ltb}
-use Rattle.document.specs.Basics.{each}
+use Rattle.data.specs.Basics.{each}
 use Rattle.rule.specs.Laws.Calls.{named-on, named-not, named-end}
 use Rattle.rule.proofs.all_named.Statement.{statement}
 use Rattle.rule.proofs.all_named.Tie as tie

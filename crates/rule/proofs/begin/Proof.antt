@@ -2,7 +2,7 @@
 use mathlib.Core.Path.{ap}
 use borrow.Author.Needs.{needs}
 use lib.ListN.{replicate}
-use Rattle.document.specs.declared.Step.{Step}
+use Rattle.data.specs.declared.Step.{Step}
 use Rattle.rule.specs.declared.Run.{Run}
 use Rattle.rule.proofs.begin.Statement.{statement}
 use Rattle.rule.proofs.begin.Tie as tie

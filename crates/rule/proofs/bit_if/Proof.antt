@@ -3,7 +3,7 @@ use mathlib.Core.Bool.{Bool}
 use mathlib.Core.Path.{sym, ap, _∙_}
 use Prim.Native.Nat.{_*_, _^_}
 use borrow.Author.Needs.{needs}
-use Rattle.document.specs.Basics.{one}
+use Rattle.data.specs.Basics.{one}
 use Rattle.rule.specs.Laws.Words.{bit-on, bit-off}
 use Rattle.rule.proofs.bit_if.Statement.{statement}
 use Rattle.rule.proofs.bit_if.Tie as tie

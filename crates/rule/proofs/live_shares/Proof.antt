@@ -5,7 +5,7 @@ use mathlib.Core.Path.{ap, _∙_}
 use Prim.Native.Nat.{_*_}
 use borrow.Author.Needs.{needs}
 use Rattle.document.specs.Padding.{word}
-use Rattle.document.specs.Basics.{at}
+use Rattle.data.specs.Basics.{at}
 use Rattle.rule.proofs.live_shares.Statement.{statement}
 use Rattle.rule.proofs.live_shares.Tie as tie
 

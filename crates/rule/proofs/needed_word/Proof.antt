@@ -3,7 +3,7 @@ use mathlib.Core.Path.{ap, _∙_}
 use Prim.Native.Nat.{_*_}
 use borrow.Author.Needs.{needs}
 use Rattle.document.specs.Padding.{word, live}
-use Rattle.document.specs.Basics.{at}
+use Rattle.data.specs.Basics.{at}
 use Rattle.step.specs.Passes.{wired}
 use Rattle.rule.specs.Laws.Run.{needed-same}
 use Rattle.rule.specs.declared.Run.{Run}

@@ -3,9 +3,9 @@ use mathlib.Core.Bool.{false}
 use mathlib.Core.Path.{ap}
 use borrow.Author.Needs.{needs}
 use lib.ListN.{replicate}
-use Rattle.document.specs.declared.Outcome.the-variants.{Refused}
-use Rattle.document.specs.declared.Padded.{Padded}
-use Rattle.document.specs.declared.Step.{Step}
+use Rattle.data.specs.declared.Outcome.the-variants.{Refused}
+use Rattle.data.specs.declared.Padded.{Padded}
+use Rattle.data.specs.declared.Step.{Step}
 use Rattle.rule.proofs.padded_not.Statement.{statement}
 use Rattle.rule.proofs.padded_not.Tie as tie
 

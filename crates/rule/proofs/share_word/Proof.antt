@@ -4,7 +4,7 @@ use Prim.Native.Nat.{ℕ, _+_, _-_, _≤_, _<_, _^_}
 use native.Mathlib.Omega.{arith}
 use borrow.Author.Needs.{needs}
 use Rattle.document.specs.Padding.{word}
-use Rattle.document.specs.Basics.{at}
+use Rattle.data.specs.Basics.{at}
 use Rattle.rule.specs.Laws.Words.{word-none, word-more, word-fits}
 use Rattle.rule.proofs.share_word.Statement.{statement}
 use Rattle.rule.proofs.share_word.Tie as tie

@@ -8,30 +8,30 @@ use lib.Dec.{leb}
 use lib.ListN.{length, take, drop, replicate, length-replicate}
 use lib.Seq.{sets, sets-eq, length-take-le, take-append-add}
 use Rattle.document.specs.Routine.{Routine, routineOf, wellFormed, recordsFit}
-use Rattle.document.specs.ProbeSets.{held}
+use Rattle.data.specs.ProbeSets.{held}
 use Rattle.document.specs.Padding.{probed, steps, neededShares, bitsOf, neededOf, word, live}
 use Rattle.document.specs.Judgements.{plain, isOpen, orderFits, probesFit, setRefusal, neededNot, needing, noStep, paddedNot, stepList, padding}
 use Rattle.document.specs.Lent.{lent, lentNeeding, lentPadding}
-use Rattle.document.specs.Laws.Tests.{clash, cond-true, cond-false, leb-true, true-leb, bool-cases}
-use Rattle.document.specs.declared.Refusal.{Refusal}
-use Rattle.document.specs.declared.Refusal.the-variants as No
-use Rattle.document.specs.declared.Outcome.the-variants.{Done, Refused}
-use Rattle.document.specs.declared.Wire.{Wire}
-use Rattle.document.specs.declared.Shape.{Shape}
-use Rattle.document.specs.declared.ProbeSet.{ProbeSet}
-use Rattle.document.specs.declared.Step.{Step}
-use Rattle.document.specs.declared.Needed.{Needed}
-use Rattle.document.specs.declared.Padded.{Padded}
+use Rattle.data.specs.Laws.Tests.{clash, cond-true, cond-false, leb-true, true-leb, bool-cases}
+use Rattle.data.specs.declared.Refusal.{Refusal}
+use Rattle.data.specs.declared.Refusal.the-variants as No
+use Rattle.data.specs.declared.Outcome.the-variants.{Done, Refused}
+use Rattle.data.specs.declared.Wire.{Wire}
+use Rattle.data.specs.declared.Shape.{Shape}
+use Rattle.data.specs.declared.ProbeSet.{ProbeSet}
+use Rattle.data.specs.declared.Step.{Step}
+use Rattle.data.specs.declared.Needed.{Needed}
+use Rattle.data.specs.declared.Padded.{Padded}
 use Rattle.rule.specs.declared.Run.{Run}
 use Rattle.rule.specs.Run.{runOf, neededBy}
 use Rattle.rule.specs.Laws.Run.{needed-is, steps-are, len-is, run-same, needed-same}
 use Rattle.rule.specs.Words.{onesOf, someOver}
 use Rattle.rule.specs.Calls.{orderIn, probesIn, Accepted, checked, observedOf}
-use Rattle.document.specs.declared.Outcome.{Outcome}
+use Rattle.data.specs.declared.Outcome.{Outcome}
 use Rattle.rule.specs.declared.Observed.{Observed}
 use Rattle.rule.specs.Laws.Calls.{few-steps}
 use Rattle.step.specs.Passes.{wired}
-use Rattle.document.specs.Basics.{Marks, at}
+use Rattle.data.specs.Basics.{Marks, at}
 
 -- ---- the list of steps
 

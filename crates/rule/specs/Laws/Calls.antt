@@ -9,17 +9,17 @@ use borrow.Author.Tests.{le-ltb, lt-leb}
 use lib.Dec.{ltb, leb}
 use lib.ListN.{length, getD, take, drop}
 use lib.Seq.{getD-take, length-take-le}
-use Rattle.document.specs.Basics.{each}
+use Rattle.data.specs.Basics.{each}
 use Rattle.document.specs.Routine.{routineOf, wellFormed, recordsFit}
-use Rattle.document.specs.ProbeSets.{held, ascending}
-use Rattle.document.specs.Laws.Placing.{held-next, held-ends}
+use Rattle.data.specs.ProbeSets.{held, ascending}
+use Rattle.data.specs.Laws.Placing.{held-next, held-ends}
 use Rattle.document.specs.Padding.{steps}
-use Rattle.document.specs.Laws.Tests.{and-l, and-r, ltb-true, true-ltb, leb-true, true-leb, Mem, each-at}
+use Rattle.data.specs.Laws.Tests.{and-l, and-r, ltb-true, true-ltb, leb-true, true-leb, Mem, each-at}
 use Rattle.document.specs.Laws.Sound.{sound}
 use Rattle.document.specs.Laws.Orders.{step-count}
-use Rattle.document.specs.declared.Wire.{Wire}
-use Rattle.document.specs.declared.Shape.{Shape}
-use Rattle.document.specs.declared.ProbeSet.{ProbeSet}
+use Rattle.data.specs.declared.Wire.{Wire}
+use Rattle.data.specs.declared.Shape.{Shape}
+use Rattle.data.specs.declared.ProbeSet.{ProbeSet}
 use Rattle.records.specs.Laws.Fitting.{fit-of, a-within, b-within}
 use Rattle.step.specs.Passes.{Wired, LowProbes}
 use Rattle.rule.specs.Words.{Shares}

@@ -8,18 +8,18 @@ use native.Mathlib.Numerals.{add-one}
 use native.Mathlib.Omega.{arith}
 use lib.ListN.{length, set, take, replicate}
 use lib.Seq.{sets, length-take-le}
-use Rattle.document.specs.Basics.{elem, Marks, at, mark}
+use Rattle.data.specs.Basics.{elem, Marks, at, mark}
 use Rattle.document.specs.Routine.{Routine, size, wire, isRand, routineOf, operands}
 use Rattle.document.specs.Padding.{unmarked, probed, randsFrom, firstLeaves, liveDown, live, pads, consumes, onlyConsumer, serves, padsBy, firstPad, lowestPad}
 use Rattle.document.specs.Padding.{nextStep, stepped, goOn, stepsFrom, steps, paddedWires, lastLeaves, liveAtEnd, word, neededShares}
 use Rattle.document.specs.Judgements.{noStep}
-use Rattle.document.specs.Laws.Tests.{and-l, and-r, elem→}
+use Rattle.data.specs.Laws.Tests.{and-l, and-r, elem→}
 use Rattle.document.specs.Laws.Live.{pad-op-of}
 use Rattle.document.specs.Laws.Steps.{lowest-some}
 use Rattle.document.specs.Laws.Sound.{within-of}
-use Rattle.document.specs.declared.Wire.{Wire}
-use Rattle.document.specs.declared.Shape.{Shape}
-use Rattle.document.specs.declared.Step.{Step}
+use Rattle.data.specs.declared.Wire.{Wire}
+use Rattle.data.specs.declared.Shape.{Shape}
+use Rattle.data.specs.declared.Step.{Step}
 use Rattle.step.specs.Passes.{wired}
 use Rattle.rule.specs.declared.Run.{Run}
 use Rattle.rule.specs.Run.{noted, after, goneOn, runBegun, runOf, neededBy}

@@ -9,7 +9,7 @@ use lib.Bits.{bitAnd, and-high}
 use lib.Count.{ones, ones-cat}
 use lib.Dec.{ltb, lit<}
 use lib.Pow.{pow-pos, pow-mono, shl-exact, high-ones, ones-lt}
-use Rattle.document.specs.Basics.{one, some}
+use Rattle.data.specs.Basics.{one, some}
 use Rattle.document.specs.Padding.{word}
 use Rattle.document.specs.Laws.Words.{word-lt}
 use Rattle.rule.specs.Words.{Shares, onesOf, someOver}

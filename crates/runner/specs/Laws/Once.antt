@@ -3,9 +3,9 @@ use mathlib.Core.Path.{_≡_}
 use mathlib.Core.List.{List}
 use Prim.Native.Nat.{ℕ}
 use Rattle.document.specs.Lent.{RunsInto}
-use Rattle.document.specs.declared.Ran.{Ran}
-use Rattle.document.specs.declared.Shape.{Shape}
-use Rattle.document.specs.declared.Wire.{Wire}
+use Rattle.data.specs.declared.Ran.{Ran}
+use Rattle.data.specs.declared.Shape.{Shape}
+use Rattle.data.specs.declared.Wire.{Wire}
 use Rattle.document.specs.Laws.Answers.{gives-once}
 
 pub run-once : (σ : Shape) (ws : List Wire) (shares randoms publics : ℕ) (buffer : List ℕ) {q r : Ran} {before after : List ℕ} →

@@ -8,14 +8,14 @@ use borrow.Author.Tests.{le-leb, lt-leb}
 use lib.Dec.{leb}
 use lib.ListN.{length, drop}
 use lib.Seq.{length-take-le}
-use Rattle.document.specs.Laws.Tests.{bool-cases, and-r}
+use Rattle.data.specs.Laws.Tests.{bool-cases, and-r}
 use Rattle.document.specs.Lent.{lent, lentRan, lentRanInto, RunsInto}
 use Rattle.document.specs.Routine.{wellFormed, routineOf, recordsFit}
 use Rattle.document.specs.Running.{bitsFit, runRefusal, ran, ranInto}
-use Rattle.document.specs.declared.Outcome.the-variants.{Done}
-use Rattle.document.specs.declared.Refusal.the-variants.{Records, Bits, Buffer}
-use Rattle.document.specs.declared.Shape.{Shape}
-use Rattle.document.specs.declared.Wire.{Wire}
+use Rattle.data.specs.declared.Outcome.the-variants.{Done}
+use Rattle.data.specs.declared.Refusal.the-variants.{Records, Bits, Buffer}
+use Rattle.data.specs.declared.Shape.{Shape}
+use Rattle.data.specs.declared.Wire.{Wire}
 use Rattle.records.specs.declared.Counts.{Counts}
 use Rattle.records.specs.Records.{countsOf}
 use Rattle.records.specs.Laws.Counts.{rands-is, pubs-is}

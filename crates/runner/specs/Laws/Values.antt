@@ -8,8 +8,8 @@ use lib.ListN.{length, getD, take, drop, set, length-append}
 use lib.Seq.{drop-cons, set-at, take-at, length-take-le}
 use Rattle.document.specs.Routine.{Routine, randsBefore, pubsBefore, routineOf}
 use Rattle.document.specs.Running.{bit, valueAt, firstValues, running, bits, bitValues}
-use Rattle.document.specs.declared.Shape.{Shape}
-use Rattle.document.specs.declared.Wire.{Wire}
+use Rattle.data.specs.declared.Shape.{Shape}
+use Rattle.data.specs.declared.Wire.{Wire}
 use Rattle.records.specs.declared.Counts.{Counts}
 use Rattle.records.specs.Records.{recordAt, countsOf}
 use Rattle.records.specs.Laws.Counts.{wire-is, rands-is, pubs-is}

@@ -6,8 +6,8 @@ use Prim.Native.Nat.{_-_, _≤_}
 use native.Mathlib.Omega.{arith}
 use borrow.Author.Tests.{not-true}
 use borrow.Author.Needs.{needs}
-use Rattle.document.specs.Laws.Tests.{and-false}
-use Rattle.document.specs.Basics.{at}
+use Rattle.data.specs.Laws.Tests.{and-false}
+use Rattle.data.specs.Basics.{at}
 use Rattle.step.specs.Consumers.{Consumers}
 use Rattle.step.specs.Laws.Consumers.{counts-none, counts-spare, counts-on, counts-off}
 use Rattle.step.proofs.consumer_counts.Statement.{statement}

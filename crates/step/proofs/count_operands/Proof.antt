@@ -1,7 +1,7 @@
 -- `step::count_operands` meets its contract. Each arm counts what the definition names.
 use mathlib.Core.Path.{sym, ap, _∙_}
 use borrow.Author.Needs.{needs}
-use Rattle.document.specs.declared.Kind.{Kind}
+use Rattle.data.specs.declared.Kind.{Kind}
 use Rattle.step.specs.Consumers.{countedWith}
 use Rattle.step.proofs.count_operands.Statement.{statement}
 use Rattle.step.proofs.count_operands.Tie as tie

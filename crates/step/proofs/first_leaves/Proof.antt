@@ -6,7 +6,7 @@ use Prim.Native.Nat.{_+_, _-_, _≤_}
 use native.Mathlib.Omega.{arith}
 use borrow.Author.Needs.{needs}
 use Rattle.document.specs.Padding.{randsFrom}
-use Rattle.document.specs.Basics.{mark}
+use Rattle.data.specs.Basics.{mark}
 use Rattle.step.specs.Passes.{wired}
 use Rattle.step.specs.Laws.Passes.{leaves-turn, leaves-end, leaves-all}
 use Rattle.step.proofs.first_leaves.Statement.{statement}

@@ -7,9 +7,9 @@ use Prim.Native.Nat.{_-_, _≤_}
 use native.Mathlib.Omega.{arith}
 use borrow.Author.Tests.{not-true}
 use borrow.Author.Needs.{needs}
-use Rattle.document.specs.Laws.Tests.{and-false}
+use Rattle.data.specs.Laws.Tests.{and-false}
 use Rattle.document.specs.Padding.{liveDown}
-use Rattle.document.specs.Basics.{at}
+use Rattle.data.specs.Basics.{at}
 use Rattle.step.specs.Passes.{wired}
 use Rattle.step.specs.Laws.Passes.{live-on, live-off, live-end, live-all}
 use Rattle.step.proofs.live_marks.Statement.{statement}

@@ -1,9 +1,9 @@
 -- `step::mark_operands` meets its contract. Each arm marks what the definition names.
 use mathlib.Core.Path.{sym, ap}
 use borrow.Author.Needs.{needs}
-use Rattle.document.specs.declared.Kind.{Kind}
+use Rattle.data.specs.declared.Kind.{Kind}
 use Rattle.document.specs.Routine.{operandsOf}
-use Rattle.document.specs.Basics.{mark}
+use Rattle.data.specs.Basics.{mark}
 use Rattle.step.proofs.mark_operands.Statement.{statement}
 use Rattle.step.proofs.mark_operands.Tie as tie
 

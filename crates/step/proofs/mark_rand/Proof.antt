@@ -3,7 +3,7 @@ use mathlib.Core.Bool.{true, cond}
 use mathlib.Core.Path.{sym, ap}
 use borrow.Author.Needs.{needs}
 use lib.ListN.{set}
-use Rattle.document.specs.declared.Kind.{Kind}
+use Rattle.data.specs.declared.Kind.{Kind}
 use Rattle.document.specs.Routine.{isRand}
 use Rattle.step.proofs.mark_rand.Statement.{statement}
 use Rattle.step.proofs.mark_rand.Tie as tie

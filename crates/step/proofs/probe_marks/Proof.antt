@@ -5,7 +5,7 @@ use native.Mathlib.Omega.{arith}
 use borrow.Author.Needs.{needs}
 use lib.ListN.{length, take, drop}
 use Rattle.document.specs.Padding.{probed}
-use Rattle.document.specs.Basics.{mark}
+use Rattle.data.specs.Basics.{mark}
 use Rattle.step.specs.Laws.Passes.{probed-turn, probed-end}
 use Rattle.step.proofs.probe_marks.Statement.{statement}
 use Rattle.step.proofs.probe_marks.Tie as tie

@@ -10,14 +10,14 @@ use borrow.Author.Tests.{eq-eqb, ne-eqb}
 use lib.Dec.{eqb}
 use lib.ListN.{length, getD, set, length-set, replicate, length-replicate, getD-replicate}
 use lib.Seq.{getD-set-same, getD-set-other}
-use Rattle.document.specs.Basics.{one, tally, all, elem, Marks, at}
+use Rattle.data.specs.Basics.{one, tally, all, elem, Marks, at}
 use Rattle.document.specs.Padding.{consumes}
 use Rattle.document.specs.Routine.{operandsOf, operands}
-use Rattle.document.specs.Laws.Tests.{clash, out-of, bool-cases, cond-cases, or-cases, or-l, or-r, not-t, eqb-true, true-eqb, wire-cases, all-at, all-of}
-use Rattle.document.specs.Laws.Tests.{tally-ext, tally-more, tally-max}
-use Rattle.document.specs.declared.Kind.{Kind}
-use Rattle.document.specs.declared.Kind.the-variants.{Share, Rand, Pub, Xor, And, Not}
-use Rattle.document.specs.declared.Wire.{Wire}
+use Rattle.data.specs.Laws.Tests.{clash, out-of, bool-cases, cond-cases, or-cases, or-l, or-r, not-t, eqb-true, true-eqb, wire-cases, all-at, all-of}
+use Rattle.data.specs.Laws.Tests.{tally-ext, tally-more, tally-max}
+use Rattle.data.specs.declared.Kind.{Kind}
+use Rattle.data.specs.declared.Kind.the-variants.{Share, Rand, Pub, Xor, And, Not}
+use Rattle.data.specs.declared.Wire.{Wire}
 use Rattle.records.specs.Records.{recordAt}
 use Rattle.records.specs.Laws.Counts.{wire-is}
 use Rattle.step.specs.Passes.{onlyWires, wired, Low}

@@ -11,15 +11,15 @@ use borrow.Author.Tests.{eq-eqb, ne-eqb}
 use lib.Dec.{eqb}
 use lib.ListN.{length, getD}
 use lib.Seq.{length-take-le}
-use Rattle.document.specs.Basics.{all, elem, Marks, at}
+use Rattle.data.specs.Basics.{all, elem, Marks, at}
 use Rattle.document.specs.Padding.{live, padsOf, pads, consumes, onlyConsumer, serves, padsBy, firstPad, lowestPad, nextStep}
 use Rattle.document.specs.Routine.{operandsOf, operands}
-use Rattle.document.specs.Laws.Tests.{clash, and-i, Mem, elem←}
+use Rattle.data.specs.Laws.Tests.{clash, and-i, Mem, elem←}
 use Rattle.document.specs.Laws.Live.{pad-op-of}
-use Rattle.document.specs.declared.Kind.{Kind}
-use Rattle.document.specs.declared.Kind.the-variants.{Share, Rand, Pub, Xor, And, Not}
-use Rattle.document.specs.declared.Wire.{Wire}
-use Rattle.document.specs.declared.Step.{Step}
+use Rattle.data.specs.declared.Kind.{Kind}
+use Rattle.data.specs.declared.Kind.the-variants.{Share, Rand, Pub, Xor, And, Not}
+use Rattle.data.specs.declared.Wire.{Wire}
+use Rattle.data.specs.declared.Step.{Step}
 use Rattle.records.specs.Records.{recordAt}
 use Rattle.records.specs.Laws.Counts.{wire-is}
 use Rattle.step.specs.Passes.{onlyWires, wired, Wired}

@@ -7,11 +7,11 @@ use native.Mathlib.Numerals.{add-one}
 use native.Mathlib.Omega.{arith}
 use lib.ListN.{length, getD, take, drop, set}
 use lib.Seq.{length-take-le}
-use Rattle.document.specs.Basics.{Marks, at, mark}
+use Rattle.data.specs.Basics.{Marks, at, mark}
 use Rattle.document.specs.Routine.{isRand, operandsOf, operands}
-use Rattle.document.specs.Laws.Placing.{held-next, held-ends}
+use Rattle.data.specs.Laws.Placing.{held-next, held-ends}
 use Rattle.document.specs.Padding.{unmarked, randsFrom, firstLeaves, liveDown, live}
-use Rattle.document.specs.declared.Wire.{Wire}
+use Rattle.data.specs.declared.Wire.{Wire}
 use Rattle.records.specs.Records.{recordAt}
 use Rattle.records.specs.Laws.Counts.{wire-is}
 use Rattle.step.specs.Passes.{onlyWires, wired}

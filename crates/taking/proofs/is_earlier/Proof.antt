@@ -2,7 +2,7 @@
 use borrow.Author.Tests.{lt-ltb, le-ltb}
 use Rattle.document.specs.Reading.{earlier}
 use Rattle.document.specs.Routine.{operandsOf}
-use Rattle.document.specs.Basics.{each}
+use Rattle.data.specs.Basics.{each}
 use Rattle.taking.proofs.LineLaws.{earlier-xor, earlier-and, earlier-not}
 use borrow.Author.Needs.{needs}
 use Rattle.taking.proofs.is_earlier.Statement.{statement}

@@ -1,9 +1,10 @@
 -- `test_library::passes` meets its contract: what each call says, put together.
 use mathlib.Core.Path.{ap, _∙_}
 use borrow.Author.Needs.{needs}
-use Rattle.document.specs.declared.Judged.{Judged}
-use Rattle.document.specs.declared.Read.{Read}
-use Rattle.test_library.specs.Passing.{isPass, passesRead}
+use Rattle.data.specs.declared.Judged.{Judged}
+use Rattle.data.specs.declared.Read.{Read}
+use Rattle.document.specs.Judgements.{told}
+use Rattle.test_library.specs.Passing.{passesRead}
 use Rattle.test_library.proofs.passes.Statement.{statement}
 use Rattle.test_library.proofs.passes.Tie as tie
 
@@ -18,7 +19,7 @@ is-pass-requires c κs = search needs
 
 returns : tie.Need-returns
 returns c =
-    c .is-pass .ensures ∙ ap (λ (a : Judged). isPass (a .verdict)) (c .before .judge .ensures)
+    c .is-pass .ensures ∙ ap (λ (a : Judged). told (a .verdict) .passes) (c .before .judge .ensures)
     ∙ ap (λ (r : Read). passesRead r) (c .before .before .before .read .ensures)
 
 pub passes-spec : {M : Type 1} → statement M

@@ -1,7 +1,7 @@
 -- `writer::put_text` meets its contract: the three parts, one after the other.
 use native.Mathlib.Omega.{arith}
 use borrow.Author.Needs.{needs}
-use Rattle.document.specs.declared.Word.the-variants as W
+use Rattle.data.specs.declared.Word.the-variants as W
 use Rattle.document.specs.Lines.{spelled}
 use Rattle.buffer.specs.Laws.Puts.{put-then, put-long}
 use Rattle.pieces.specs.Laws.Lengths.{line2-long}

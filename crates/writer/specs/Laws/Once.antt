@@ -3,9 +3,9 @@ use mathlib.Core.Path.{_≡_}
 use mathlib.Core.List.{List}
 use Prim.Native.Nat.{ℕ}
 use Rattle.document.specs.Lent.{WritesInto}
-use Rattle.document.specs.declared.Shape.{Shape}
-use Rattle.document.specs.declared.Wire.{Wire}
-use Rattle.document.specs.declared.Written.{Written}
+use Rattle.data.specs.declared.Shape.{Shape}
+use Rattle.data.specs.declared.Wire.{Wire}
+use Rattle.data.specs.declared.Written.{Written}
 use Rattle.document.specs.Laws.Answers.{gives-once}
 
 pub write-once : (σ : Shape) (ws : List Wire) (buffer : List ℕ) {q r : Written} {before after : List ℕ} →

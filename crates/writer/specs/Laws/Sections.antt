@@ -6,11 +6,11 @@ use native.Mathlib.Nat.{not-suc-le-zero}
 use native.Mathlib.Numerals.{add-one}
 use native.Mathlib.Omega.{arith}
 use lib.ListN.{length, length-append}
-use Rattle.document.specs.Laws.Tests.{wire-cases}
+use Rattle.data.specs.Laws.Tests.{wire-cases}
 use Rattle.document.specs.Lines.{decimal, spelled}
-use Rattle.document.specs.declared.Shape.{Shape}
-use Rattle.document.specs.declared.Wire.{Wire}
-use Rattle.document.specs.declared.Word.the-variants as W
+use Rattle.data.specs.declared.Shape.{Shape}
+use Rattle.data.specs.declared.Wire.{Wire}
+use Rattle.data.specs.declared.Word.the-variants as W
 use Rattle.records.specs.Records.{recordAt}
 use Rattle.pieces.specs.Pieces.{piece}
 use Rattle.pieces.specs.Laws.Lengths.{line2-long}

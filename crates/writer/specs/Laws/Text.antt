@@ -7,10 +7,10 @@ use lib.ListN.{length, take}
 use Rattle.document.specs.Lines.{lf, spelled, lineText, textOfLines}
 use Rattle.document.specs.Routine.{routineOf}
 use Rattle.document.specs.Writing.{wireLines, outLines, linesOf, textOf}
-use Rattle.document.specs.declared.Line.{Line}
-use Rattle.document.specs.declared.Shape.{Shape}
-use Rattle.document.specs.declared.Wire.{Wire}
-use Rattle.document.specs.declared.Word.the-variants as W
+use Rattle.data.specs.declared.Line.{Line}
+use Rattle.data.specs.declared.Shape.{Shape}
+use Rattle.data.specs.declared.Wire.{Wire}
+use Rattle.data.specs.declared.Word.the-variants as W
 use Rattle.records.specs.Records.{recordAt}
 use Rattle.records.specs.Laws.Counts.{wire-is}
 use Rattle.records.specs.Records.{Fit}

@@ -7,14 +7,14 @@ use native.Mathlib.Omega.{arith}
 use borrow.Author.Tests.{le-leb, lt-leb}
 use lib.Dec.{leb}
 use lib.ListN.{length}
-use Rattle.document.specs.Laws.Tests.{bool-cases, and-r}
+use Rattle.data.specs.Laws.Tests.{bool-cases, and-r}
 use Rattle.document.specs.Lent.{lent, lentWritten, lentWrittenInto, WritesInto}
 use Rattle.document.specs.Routine.{wellFormed, routineOf, recordsFit}
 use Rattle.document.specs.Writing.{textOf, writeRefusal, written, writtenInto}
-use Rattle.document.specs.declared.Outcome.the-variants.{Done}
-use Rattle.document.specs.declared.Refusal.the-variants.{Records, Buffer}
-use Rattle.document.specs.declared.Shape.{Shape}
-use Rattle.document.specs.declared.Wire.{Wire}
+use Rattle.data.specs.declared.Outcome.the-variants.{Done}
+use Rattle.data.specs.declared.Refusal.the-variants.{Records, Buffer}
+use Rattle.data.specs.declared.Shape.{Shape}
+use Rattle.data.specs.declared.Wire.{Wire}
 use Rattle.records.specs.Laws.Fitting.{long-of, fit-of}
 use Rattle.buffer.specs.Put.{Put}
 use Rattle.buffer.specs.Laws.Puts.{wrote-first}

@@ -5,10 +5,13 @@ use Rattle.compare_judging.proofs.judged.compare_judged.Statement.{stat
 use Rattle.compare_judging.proofs.judged.compare_judged.Tie as tie
 
 abbrev Inv-loop : tie.InvT-loop
-Inv-loop g d u₀ opened₀ order₀ u opened order = 0 ≤ order
+Inv-loop g end u₀ opened₀ order₀ u opened order = 0 ≤ order
 
 abbrev μ-loop : tie.MeasureT-loop
-μ-loop g d u₀ opened₀ order₀ u opened order = d - order
+μ-loop g end u₀ opened₀ order₀ u opened order = end - order
+
+lower-requires : tie.Need-lower-requires Inv-loop μ-loop
+lower-requires c κs = search needs
 
 loop-holds : tie.Need-loop-holds Inv-loop μ-loop
 loop-holds c = search needs
@@ -43,6 +46,7 @@ compare-judged-spec =
     (tie.spec
     Inv-loop
     μ-loop
+    lower-requires
     loop-holds
     at-requires
     compare-order-requires
