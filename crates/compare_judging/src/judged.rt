@@ -7,7 +7,6 @@ use compare_making::lending;
 use compare_rules::judging;
 use compare_rules::starts;
 use compare_rules::starts::Small;
-use compare_rules::starts::Starts;
 use data::Listing;
 use data::Shape;
 use data::Which;
@@ -33,17 +32,24 @@ fn small(listing: Listing) -> Small {
 }
 
 // Every set of a size is observed.
-fn observe_size(t: [u64; 64], r: Small, all: Starts, size: usize) -> [u64; 64] {
-    if r.listing.shape.n < size {
+fn observe_size(
+    t: [u64; 64],
+    s: usize,
+    n: usize,
+    size: usize,
+    ones: &[u64; 512],
+    chosen: &[u64; 512],
+) -> [u64; 64] {
+    if n < size {
         return t;
     }
     let mut set = judging::first_set(size);
     let mut u = t;
     let mut k: u64 = 0;
     while k < 1000000 {
-        let v = tally::compared(u, tally::EVEN, starts::is_even(r, all, set));
+        let v = tally::compared(u, tally::EVEN, starts::is_even(s, set, ones, chosen));
         u = v;
-        let from = judging::rising(set, r.listing.shape.n);
+        let from = judging::rising(set, n);
         if from == 4 {
             return u;
         }
@@ -54,13 +60,22 @@ fn observe_size(t: [u64; 64], r: Small, all: Starts, size: usize) -> [u64; 64] {
     u
 }
 
+// The empty set first: each choice of the secrets has as many starts as another.
 fn observe_sizes(t: [u64; 64], r: Small, publics: u64, top: usize) -> [u64; 64] {
-    let all = starts::all_starts(r, publics);
-    let mut u = t;
+    let mut ones = [0u64; 512];
+    let mut chosen = [0u64; 512];
+    starts::all_starts(r, publics, &mut ones, &mut chosen);
+    let s = r.listing.shape.s;
+    let n = r.listing.shape.n;
+    let mut u = tally::compared(
+        t,
+        tally::EVEN,
+        starts::is_even(s, judging::nothing(), &ones, &chosen),
+    );
     let mut size = 0;
     while size < top {
         size += 1;
-        let next = observe_size(u, r, all, size);
+        let next = observe_size(u, s, n, size, &ones, &chosen);
         u = next;
     }
     u

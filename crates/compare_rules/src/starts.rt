@@ -1,24 +1,18 @@
-// Demand 3 by counting: every start of a small routine is run, and for each set each pattern is counted under each choice of secrets.
+// Demand 3 by counting: every start of a small routine is run, and for each set it is counted, under each choice of the secrets,
+// from how many starts all its wires are 1.
 use compare_lines::wires;
 use compare_texts::running;
 use data::Listing;
 use data::ProbeSet;
 
-// A small routine, at most 10 bits of shares and randoms and at most 64 wires; how many shares and how many starts it has.
+// The number of a wire that no small routine has, taken for one that is always 1.
+const ALWAYS: usize = 63;
+
+// A small routine, fewer than 10 bits of shares and randoms and fewer than 64 wires; how many shares and how many starts it has.
 pub struct Small {
     pub listing: Listing,
     pub total: usize,
     pub starts: usize,
-}
-
-// The values of every start, a word each, and the secrets that its shares xor to.
-pub struct Starts {
-    pub values: [u64; 1024],
-    pub secrets: [u8; 1024],
-}
-
-fn narrow(x: u64) -> usize {
-    x as usize
 }
 
 // The secrets of a share word: bit i is the xor of the shares of secret i.
@@ -53,60 +47,77 @@ fn high_bits(x: u64, count: usize) -> u64 {
     0
 }
 
-pub fn all_starts(r: Small, publics: u64) -> Starts {
+// Notes the values of start x: of each wire that is 1, and of a last one that always is.
+fn put_start(values: u64, x: usize, ones: &mut [u64; 512]) {
+    let mut w = 0;
+    while w < 64 {
+        if wires::bit(values, w) | (w == ALWAYS) {
+            let at = w * 8 + x / 64 % 8;
+            ones[at] = ones[at] | (1 << (x % 64));
+        }
+        w += 1;
+    }
+}
+
+// Notes start x among those of its choice of the secrets.
+fn put_choice(choice: u64, x: usize, chosen: &mut [u64; 512]) {
+    let at = (choice % 64) as usize * 8 + x / 64 % 8;
+    chosen[at] = chosen[at] | (1 << (x % 64));
+}
+
+// Runs every start. Bit x of the eight words from 8w on is the value of wire w from start x, and likewise for a choice of the secrets.
+pub fn all_starts(r: Small, publics: u64, ones: &mut [u64; 512], chosen: &mut [u64; 512]) {
     let ws = r.listing.wires;
     let n = r.listing.shape.n;
     let total = r.total;
     let d = r.listing.shape.d;
     let starts = r.starts;
-    let mut values = [0u64; 1024];
-    let mut chosen = [0u8; 1024];
     let mut x: usize = 0;
     while x < starts {
-        if x < 1024 {
-            let shares = low_bits(x as u64, total);
-            let done = running::values(n, ws, shares, high_bits(x as u64, total), publics);
-            values[x] = done.low;
-            chosen[x] = (secrets(total, d, shares) % 32) as u8;
-        }
+        let shares = low_bits(x as u64, total);
+        let done = running::values(n, ws, shares, high_bits(x as u64, total), publics);
+        put_start(done.low, x, ones);
+        put_choice(secrets(total, d, shares), x, chosen);
         x += 1;
-    }
-    Starts {
-        values,
-        secrets: chosen,
     }
 }
 
-// The observed bits of a start.
-fn pattern(values: u64, set: ProbeSet) -> usize {
-    let places = set.places;
-    let len = set.len;
-    let mut word = 0;
-    let mut i = 0;
-    while i < 4 {
-        if i < len {
-            word = word | wires::bit_of(wires::bit(values, wires::wide(places[i])), i);
+// The i-th wire of the set, or the one that is always 1.
+fn wire_at(set: ProbeSet, i: usize) -> usize {
+    if i < set.len {
+        if i < 4 {
+            let places = set.places;
+            return wires::wide(places[i]);
         }
-        i += 1;
     }
-    narrow(word)
+    ALWAYS
 }
 
-// How often each pattern comes with each choice of secrets: the choice, then the pattern, make the place.
-fn counts_of(r: Small, all: Starts, set: ProbeSet) -> [u16; 512] {
-    let starts = r.starts;
-    let mut counts = [0u16; 512];
-    let mut x = 0;
-    while x < starts {
-        if x < 1024 {
-            let chosen = wires::wide(all.secrets[x]);
-            let seen = pattern(all.values[x], set);
-            let at = chosen % 32 * 16 + seen % 16;
-            counts[at] = std::num::wrapping_add_u16(counts[at], 1);
-        }
-        x += 1;
+// The starts from which all wires of the set are 1.
+fn all_one(set: ProbeSet, ones: &[u64; 512]) -> [u64; 8] {
+    let a = wire_at(set, 0) % 64 * 8;
+    let b = wire_at(set, 1) % 64 * 8;
+    let c = wire_at(set, 2) % 64 * 8;
+    let d = wire_at(set, 3) % 64 * 8;
+    let mut words = [0u64; 8];
+    let mut j = 0;
+    while j < 8 {
+        words[j] = ones[a + j] & ones[b + j] & ones[c + j] & ones[d + j];
+        j += 1;
     }
-    counts
+    words
+}
+
+// How many of these starts have this choice of the secrets.
+fn count_of(words: [u64; 8], choice: usize, chosen: &[u64; 512]) -> u32 {
+    let from = choice % 64 * 8;
+    let mut count = 0u32;
+    let mut j = 0;
+    while j < 8 {
+        count = std::num::wrapping_add_u32(count, u64::count_ones(words[j] & chosen[from + j]));
+        j += 1;
+    }
+    count
 }
 
 fn choices(s: usize) -> usize {
@@ -116,18 +127,18 @@ fn choices(s: usize) -> usize {
     32
 }
 
-// Whether every choice of secrets has the counts of the first one.
-pub fn is_even(r: Small, all: Starts, set: ProbeSet) -> bool {
-    let counts = counts_of(r, all, set);
-    let top = choices(r.listing.shape.s);
-    let mut at = 0;
-    while at < 512 {
-        if at / 16 < top {
-            if counts[at] != counts[at % 16] {
-                return false;
-            }
+// Whether each choice of the secrets has as many starts from which all wires of the set are 1 as the first one has.
+// Where it is so of every smaller set too, then of each pattern of the set: how often one comes is a sum of such numbers and their opposites.
+pub fn is_even(s: usize, set: ProbeSet, ones: &[u64; 512], chosen: &[u64; 512]) -> bool {
+    let words = all_one(set, ones);
+    let first = count_of(words, 0, chosen);
+    let top = choices(s);
+    let mut choice = 0;
+    while choice < top {
+        if count_of(words, choice, chosen) != first {
+            return false;
         }
-        at += 1;
+        choice += 1;
     }
     true
 }

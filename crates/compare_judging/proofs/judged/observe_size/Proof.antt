@@ -5,10 +5,10 @@ use Rattle.compare_judging.proofs.judged.observe_size.Statement.{statem
 use Rattle.compare_judging.proofs.judged.observe_size.Tie as tie
 
 abbrev Inv-loop : tie.InvT-loop
-Inv-loop r all size set₀ u₀ k₀ set u k = 0 ≤ k
+Inv-loop s n size ones chosen set₀ u₀ k₀ set u k = 0 ≤ k
 
 abbrev μ-loop : tie.MeasureT-loop
-μ-loop r all size set₀ u₀ k₀ set u k = 1000000 - k
+μ-loop s n size ones chosen set₀ u₀ k₀ set u k = 1000000 - k
 
 returns : tie.Need-returns Inv-loop μ-loop
 returns c = search needs

@@ -5,13 +5,22 @@ use Rattle.compare_judging.proofs.judged.observe_sizes.Statement.{state
 use Rattle.compare_judging.proofs.judged.observe_sizes.Tie as tie
 
 abbrev Inv-loop : tie.InvT-loop
-Inv-loop r publics top all u₀ size₀ u size = 0 ≤ size
+Inv-loop publics top ones chosen s n u₀ size₀ u size = 0 ≤ size
 
 abbrev μ-loop : tie.MeasureT-loop
-μ-loop r publics top all u₀ size₀ u size = top - size
+μ-loop publics top ones chosen s n u₀ size₀ u size = top - size
 
 all-starts-requires : tie.Need-all-starts-requires Inv-loop μ-loop
 all-starts-requires c κs = search needs
+
+nothing-requires : tie.Need-nothing-requires Inv-loop μ-loop
+nothing-requires c κs = search needs
+
+is-even-requires : tie.Need-is-even-requires Inv-loop μ-loop
+is-even-requires c κs = search needs
+
+compared-requires : tie.Need-compared-requires Inv-loop μ-loop
+compared-requires c κs = search needs
 
 loop-holds : tie.Need-loop-holds Inv-loop μ-loop
 loop-holds c = search needs
@@ -38,6 +47,9 @@ observe-sizes-spec =
     Inv-loop
     μ-loop
     all-starts-requires
+    nothing-requires
+    is-even-requires
+    compared-requires
     loop-holds
     add-size
     observe-size-requires

@@ -5,10 +5,10 @@ use Rattle.compare_rules.proofs.starts.all_starts.Statement.{statement}
 use Rattle.compare_rules.proofs.starts.all_starts.Tie as tie
 
 abbrev Inv-loop : tie.InvT-loop
-Inv-loop publics ws n total d starts values₀ chosen₀ x₀ values chosen x = 0 ≤ x
+Inv-loop publics ones₀ chosen₀ ws n total d starts x₀ ones chosen x = 0 ≤ x
 
 abbrev μ-loop : tie.MeasureT-loop
-μ-loop publics ws n total d starts values₀ chosen₀ x₀ values chosen x = starts - x
+μ-loop publics ones₀ chosen₀ ws n total d starts x₀ ones chosen x = starts - x
 
 loop-holds : tie.Need-loop-holds Inv-loop μ-loop
 loop-holds c = search needs
@@ -22,20 +22,14 @@ high-bits-requires c κs = search needs
 values-requires : tie.Need-values-requires Inv-loop μ-loop
 values-requires c κs = search needs
 
-mul-values : tie.Need-mul-values Inv-loop μ-loop
-mul-values c = search needs
-
-array-write-values : tie.Need-array-write-values Inv-loop μ-loop
-array-write-values c = search needs
+put-start-requires : tie.Need-put-start-requires Inv-loop μ-loop
+put-start-requires c κs = search needs
 
 secrets-requires : tie.Need-secrets-requires Inv-loop μ-loop
 secrets-requires c κs = search needs
 
-cast-chosen : tie.Need-cast-chosen Inv-loop μ-loop
-cast-chosen c = search needs
-
-array-write-chosen : tie.Need-array-write-chosen Inv-loop μ-loop
-array-write-chosen c = search needs
+put-choice-requires : tie.Need-put-choice-requires Inv-loop μ-loop
+put-choice-requires c κs = search needs
 
 add-x : tie.Need-add-x Inv-loop μ-loop
 add-x c = search needs
@@ -59,11 +53,9 @@ all-starts-spec =
     low-bits-requires
     high-bits-requires
     values-requires
-    mul-values
-    array-write-values
+    put-start-requires
     secrets-requires
-    cast-chosen
-    array-write-chosen
+    put-choice-requires
     add-x
     loop-less
     loop-again

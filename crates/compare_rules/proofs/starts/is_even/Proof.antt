@@ -5,13 +5,16 @@ use Rattle.compare_rules.proofs.starts.is_even.Statement.{statement}
 use Rattle.compare_rules.proofs.starts.is_even.Tie as tie
 
 abbrev Inv-loop : tie.InvT-loop
-Inv-loop counts top at₀ at = 0 ≤ at
+Inv-loop s ones chosen words first top choice₀ choice = 0 ≤ choice
 
 abbrev μ-loop : tie.MeasureT-loop
-μ-loop counts top at₀ at = 512 - at
+μ-loop s ones chosen words first top choice₀ choice = top - choice
 
-counts-of-requires : tie.Need-counts-of-requires Inv-loop μ-loop
-counts-of-requires c κs = search needs
+all-one-requires : tie.Need-all-one-requires Inv-loop μ-loop
+all-one-requires c κs = search needs
+
+count-of-requires : tie.Need-count-of-requires Inv-loop μ-loop
+count-of-requires c κs = search needs
 
 choices-requires : tie.Need-choices-requires Inv-loop μ-loop
 choices-requires c κs = search needs
@@ -19,23 +22,14 @@ choices-requires c κs = search needs
 loop-holds : tie.Need-loop-holds Inv-loop μ-loop
 loop-holds c = search needs
 
-mul-if2 : tie.Need-mul-if2 Inv-loop μ-loop
-mul-if2 c = search needs
-
-array-read-if2 : tie.Need-array-read-if2 Inv-loop μ-loop
-array-read-if2 c = search needs
-
-mul-if2-2 : tie.Need-mul-if2-2 Inv-loop μ-loop
-mul-if2-2 c = search needs
-
-array-read-if2-2 : tie.Need-array-read-if2-2 Inv-loop μ-loop
-array-read-if2-2 c = search needs
+count-of-requires-2 : tie.Need-count-of-requires-2 Inv-loop μ-loop
+count-of-requires-2 c κs = search needs
 
 returns : tie.Need-returns Inv-loop μ-loop
 returns c = search needs
 
-add-at : tie.Need-add-at Inv-loop μ-loop
-add-at c = search needs
+add-choice : tie.Need-add-choice Inv-loop μ-loop
+add-choice c = search needs
 
 loop-less : tie.Need-loop-less Inv-loop μ-loop
 loop-less c = search needs
@@ -52,15 +46,13 @@ is-even-spec =
     (tie.spec
     Inv-loop
     μ-loop
-    counts-of-requires
+    all-one-requires
+    count-of-requires
     choices-requires
     loop-holds
-    mul-if2
-    array-read-if2
-    mul-if2-2
-    array-read-if2-2
+    count-of-requires-2
     returns
-    add-at
+    add-choice
     loop-less
     loop-again
     returns-2)
