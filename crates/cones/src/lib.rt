@@ -1,9 +1,9 @@
 // What each wire is computed from, as words: shares, randoms, and randoms of its own.
+use counts::Counts;
 use data::Kind;
 use data::Listing;
 use data::Shape;
 use data::Wire;
-use records::Counts;
 ghost use mathlib.Core.Path.{_≡_};
 ghost use mathlib.Core.Bool.{true, cond};
 ghost use Prim.Native.Nat.{_^_, _≤_, _<_};
@@ -154,7 +154,7 @@ fn rand_cones(listing: Listing) -> [u64; 128]
         let k = x.kind;
         let cone = cone_of(rand_bit(k, counts.rands), x, words);
         words[w] = cone;
-        let next = records::count_record(counts, x);
+        let next = counts::count_record(counts, x);
         counts = next;
         w += 1;
     }
@@ -179,7 +179,7 @@ fn own_rands(listing: Listing, cones: [u64; 128]) -> [u64; 128]
         let x = listing.wires[w];
         let own = own_of(x, counts.rands, cones, words);
         words[w] = own;
-        let next = records::count_record(counts, x);
+        let next = counts::count_record(counts, x);
         counts = next;
         w += 1;
     }

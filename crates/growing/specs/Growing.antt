@@ -12,7 +12,7 @@ use Rattle.data.specs.ProbeSets.{held, emptySet, setOf, Asc}
 use Rattle.document.specs.Judgements.{isOpen, judgementOf}
 use Rattle.data.specs.declared.ProbeSet.{ProbeSet}
 use Rattle.data.specs.declared.Wire.{Wire}
-use Rattle.records.specs.Records.{recordAt}
+use Rattle.counts.specs.Counting.{recordAt}
 use Rattle.cones.specs.Bits.{minus}
 use Rattle.cones.specs.Seen.{Seen, seeAll, unseen}
 use Rattle.data.specs.declared.Which.{Which}

@@ -1,3 +1,2 @@
--- The laws of sets as they lie in their places and of wires passed over, and of a whole set.
+-- The laws of sets as they lie in their places, and of wires passed over.
 pub mod Growing
-pub mod Leaf

@@ -1,13 +1,13 @@
-// One set of a judgement: how it is grown by a wire, and whether it is open.
+// One set of a judgement: how it is grown by a wire, and the bound of what it may need.
 use data::Listing;
 use data::ProbeSet;
 use data::Which;
 ghost use mathlib.Core.Path.{_≡_};
 ghost use mathlib.Core.List.{_∷_, [], _++_};
-ghost use Prim.Native.Nat.{_+_, _^_, _≤_, _<_};
+ghost use Prim.Native.Nat.{_+_, _≤_, _<_};
 ghost use Rattle.data.specs.ProbeSets.{held, setOf};
 ghost use Rattle.document.specs.Judgements.{judgementOf};
-ghost use Rattle.growing.specs.Growing.{none, opensIn, nothingGrown, ownWith, grownBy, Skipped, judgedSet, Holding, innerOf, boundOf, Asked};
+ghost use Rattle.growing.specs.Growing.{none, nothingGrown, ownWith, grownBy, Skipped, Holding, innerOf, boundOf};
 
 // What a search goes by from its first set to its last: the judgement, the routine and the order.
 // Its tables are lent beside it, because a function over a struct that holds references is proved by hand.
@@ -149,7 +149,7 @@ fn inner_of(listing: Listing, set: ProbeSet) -> usize
 }
 
 // What the needed shares of a secret may not exceed.
-fn bound_of(q: Question, set: ProbeSet) -> usize
+pub fn bound_of(q: Question, set: ProbeSet) -> usize
     requires { ⌜ Holding (q .listing .shape .n) (q .listing .wires) set ⌝ }
     ensures { λ r. ⌜ r ≡ boundOf (q .which) (q .listing .wires) (q .t) (held set) ⌝ }
 {
@@ -160,42 +160,5 @@ fn bound_of(q: Question, set: ProbeSet) -> usize
             let listing = q.listing;
             inner_of(listing, set)
         }
-    }
-}
-
-// The set is open. One with an own random is not, where no smaller set is; nor is one whose cones hold no more than the bound. Only the rest is run.
-fn set_open(q: Question, g: Grown) -> bool
-    requires { ⌜ Asked q g ⌝ }
-    ensures { λ r. ⌜ r ≡ opensIn q (held (g .set)) ⌝ }
-{
-    if g.own != 0 {
-        return false;
-    }
-    let set = g.set;
-    let bound = bound_of(q, set);
-    let s = q.listing.shape.s;
-    let d = q.listing.shape.d;
-    if !rule::over(s, d, g.shares, bound) {
-        return false;
-    }
-    let listing = q.listing;
-    let probe = step::probe_marks(set);
-    let needed = rule::needed_word(listing, probe);
-    rule::over(s, d, needed, bound)
-}
-
-// The grown set judged, as one set more.
-pub fn judge_set(q: Question, g: Grown, count: u64) -> Found
-    requires { ⌜ Asked q g × (count + 1 < 2 ^ 63) ⌝ }
-    ensures { λ r. ⌜ r ≡ judgedSet (opensIn q) (held (g .set)) count ⌝ }
-{
-    if !set_open(q, g) {
-        return nothing_found(count + 1);
-    }
-    let set = g.set;
-    Found {
-        hit: true,
-        count: count + 1,
-        set,
     }
 }

@@ -1,6 +1,3 @@
--- The laws of the search: of sets in order, of a turn, of wires passed over, of the sizes; and that there is one answer.
-pub mod Search
-pub mod Turns
-pub mod Skipping
-pub mod Sizes
+-- The laws of the answers, and that there is one answer.
+pub mod Answers
 pub mod Once

@@ -1,3 +1,3 @@
--- What a search of sets in order goes by and finds, and the laws about it.
-pub mod Search
+-- The answer of a judgement, and the laws about it.
+pub mod Answers
 pub mod Laws

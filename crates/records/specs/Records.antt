@@ -1,42 +1,13 @@
--- The test of refusal 11 in the order of the records: the counts so far, and the test of one record.
+-- The test of refusal 11 in the order of the records: the test of one record, and what the whole test says.
 use mathlib.Core.Path.{_≡_}
-use mathlib.Core.Bool.{Bool, true, _&&_}
+use mathlib.Core.Bool.{Bool, true}
 use mathlib.Core.List.{List, []}
-use Prim.Native.Nat.{ℕ, _+_, _*_, _≤_, _<_}
-use lib.Dec.{leb}
-use lib.ListN.{length, getD, take}
-use Rattle.data.specs.Basics.{one, tally}
-use Rattle.document.specs.Routine.{blank, isRand, isPub, fits, routineOf}
+use Prim.Native.Nat.{ℕ, _*_, _≤_, _<_}
+use lib.ListN.{length, take}
+use Rattle.document.specs.Routine.{fits, routineOf}
 use Rattle.data.specs.declared.Wire.{Wire}
 use Rattle.data.specs.declared.Shape.{Shape}
-use Rattle.records.specs.declared.Counts.{Counts}
-
--- the record of wire w
-abbrev pub recordAt : List Wire → ℕ → Wire
-recordAt ws w = getD ws w blank
-
--- the randoms, publics and outputs among the first m records
-unfoldable pub countsOf : ℕ → List Wire → Counts
-countsOf m ws =
-    record {
-      rands = tally m (λ u. isRand (recordAt ws u .kind));
-      pubs = tally m (λ u. isPub (recordAt ws u .kind));
-      outs = tally m (λ u. recordAt ws u .out);
-    }
-
--- the counts with one record more
-abbrev pub withRecord : Counts → Wire → Counts
-withRecord c x = record { rands = one (isRand (x .kind)) + c .rands; pubs = one (isPub (x .kind)) + c .pubs; outs = one (x .out) + c .outs }
-
--- counts that have room for one more
-pub record Room (c : Counts) : Type 0 where
-  pub rands-room : c .rands < 128
-  pub pubs-room : c .pubs < 128
-  pub outs-room : c .outs < 128
-
--- 1.23, 1.31: no ceiling is passed by the randoms, the publics and the outputs
-unfoldable pub ceilingsMet : Counts → Bool
-ceilingsMet c = leb (c .rands) 64 && leb (c .pubs) 16 && leb (c .outs) 64
+use Rattle.counts.specs.Counting.{recordAt, countsOf}
 
 -- 1.12: S and D are in their ranges, and so S·D is between 2 and 64
 pub record Ranged (s d : ℕ) : Type 0 where

@@ -4,89 +4,11 @@ use data::Listing;
 use data::Shape;
 use data::Wire;
 ghost use mathlib.Core.Path.{_≡_};
-ghost use mathlib.Core.Bool.{true, false};
-ghost use Prim.Native.Nat.{_+_, _*_, _≤_, _<_};
-ghost use Rattle.data.specs.Basics.{one, all};
-ghost use Rattle.document.specs.Routine.{isRand, isPub, recordsFit};
-ghost use Rattle.records.specs.Records.{recordAt, countsOf, withRecord, Room, ceilingsMet, Ranged, fitsAt};
-
-// How many of the first records are randoms, publics and outputs.
-pub struct Counts {
-    pub rands: usize,
-    pub pubs: usize,
-    pub outs: usize,
-}
-
-fn is_rand(k: Kind) -> bool
-    ensures { λ r. ⌜ r ≡ isRand k ⌝ }
-{
-    match k {
-        Kind::Share => false,
-        Kind::Rand => true,
-        Kind::Pub => false,
-        Kind::Xor => false,
-        Kind::And => false,
-        Kind::Not => false,
-    }
-}
-
-fn is_pub(k: Kind) -> bool
-    ensures { λ r. ⌜ r ≡ isPub k ⌝ }
-{
-    match k {
-        Kind::Share => false,
-        Kind::Rand => false,
-        Kind::Pub => true,
-        Kind::Xor => false,
-        Kind::And => false,
-        Kind::Not => false,
-    }
-}
-
-fn one_if(b: bool) -> usize
-    ensures { λ r. ⌜ r ≡ one b ⌝ }
-{
-    if b { 1 } else { 0 }
-}
-
-// The counts with one record more.
-pub fn count_record(c: Counts, x: Wire) -> Counts
-    requires { ⌜ Room c ⌝ }
-    ensures { λ r. ⌜ r ≡ withRecord c x ⌝ }
-{
-    let k = x.kind;
-    Counts {
-        rands: one_if(is_rand(k)) + c.rands,
-        pubs: one_if(is_pub(k)) + c.pubs,
-        outs: one_if(x.out) + c.outs,
-    }
-}
-
-// The counts over the first n records.
-pub fn count_records(n: usize, ws: [Wire; 128]) -> Counts
-    requires { ⌜ n ≤ 128 ⌝ }
-    ensures { λ r. ⌜ r ≡ countsOf n ws ⌝ }
-{
-    let mut c = Counts {
-        rands: 0,
-        pubs: 0,
-        outs: 0,
-    };
-    let mut i = 0;
-    while i < n {
-        let x = ws[i];
-        let next = count_record(c, x);
-        c = next;
-        i += 1;
-    }
-    c
-}
-
-fn ceilings_met(c: Counts) -> bool
-    ensures { λ r. ⌜ r ≡ ceilingsMet c ⌝ }
-{
-    (c.rands <= 64) & (c.pubs <= 16) & (c.outs <= 64)
-}
+ghost use Prim.Native.Nat.{_≤_};
+ghost use Rattle.data.specs.Basics.{all};
+ghost use Rattle.document.specs.Routine.{recordsFit};
+ghost use Rattle.counts.specs.Counting.{recordAt};
+ghost use Rattle.records.specs.Records.{Ranged, fitsAt};
 
 // The record x is one that wire w of a routine of S and D could have.
 fn record_fits(s: usize, d: usize, w: usize, x: Wire) -> bool
@@ -139,8 +61,8 @@ pub fn records_fit(listing: Listing) -> bool
         return false;
     }
     let ws = listing.wires;
-    let counts = count_records(n, ws);
-    if !ceilings_met(counts) {
+    let counts = counts::count_records(n, ws);
+    if !counts::ceilings_met(counts) {
         return false;
     }
     all_fit(listing)

@@ -1,4 +1,3 @@
--- What a report promises, the lines of the orders in the order of the code, and their laws.
-pub mod Orders
+-- What a report promises, and the laws about it.
 pub mod Reports
 pub mod Laws

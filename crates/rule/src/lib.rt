@@ -10,18 +10,18 @@ use data::Step;
 use data::Wire;
 use step::Next;
 ghost use mathlib.Core.Path.{_≡_};
-ghost use Prim.Native.Nat.{_+_, _*_, _^_, _≤_, _<_};
-ghost use lib.Dec.{ltb};
-ghost use lib.ListN.{take, replicate};
-ghost use Rattle.data.specs.Basics.{one, at, each};
+ghost use Prim.Native.Nat.{_*_, _<_};
+ghost use lib.ListN.{replicate};
+ghost use Rattle.data.specs.Basics.{at};
 ghost use Rattle.document.specs.Reading.{routineIn};
 ghost use Rattle.document.specs.Padding.{live, word};
 ghost use Rattle.document.specs.Judgements.{noStep, neededNot, paddedNot};
 ghost use Rattle.document.specs.Lent.{lentNeeding, lentPadding};
-ghost use Rattle.step.specs.Passes.{wired, Wired};
+ghost use Rattle.marks.specs.Passes.{wired, Wired};
+ghost use Rattle.shares.specs.Words.{Shares};
+ghost use Rattle.asking.specs.Checks.{Accepted};
 ghost use Rattle.rule.specs.Run.{noted, runOf, neededBy};
-ghost use Rattle.rule.specs.Words.{Shares, onesOf, someOver};
-ghost use Rattle.rule.specs.Calls.{orderIn, probesIn, Accepted, checked, observedOf};
+ghost use Rattle.rule.specs.Calls.{observedOf};
 
 // A run of the rule so far: the leaves, and the steps noted.
 pub struct Run {
@@ -79,7 +79,7 @@ fn run_to_end(n: usize, ws: [Wire; 128], probe: [bool; 128]) -> Run
     requires { ⌜ Wired n ws ⌝ }
     ensures { λ r. ⌜ r ≡ runOf (wired n ws) probe ⌝ }
 {
-    let first = step::first_leaves(n, ws);
+    let first = marks::first_leaves(n, ws);
     let mut run = begin(first);
     while run.len < n {
         let leaf = run.leaf;
@@ -95,29 +95,6 @@ fn run_to_end(n: usize, ws: [Wire; 128], probe: [bool; 128]) -> Run
     run
 }
 
-fn bit_if(on: bool, k: usize) -> u64
-    requires { ⌜ k < 64 ⌝ }
-    ensures { λ r. ⌜ r ≡ one on * 2 ^ k ⌝ }
-{
-    if on { 1u64 << k } else { 0 }
-}
-
-// Bit k for each live wire k below m.
-fn share_word(alive: [bool; 128], m: usize) -> u64
-    requires { ⌜ m ≤ 64 ⌝ }
-    ensures { λ r. ⌜ r ≡ word m (at alive) ⌝ }
-{
-    let mut shares = 0u64;
-    let mut k = 0;
-    while k < m {
-        let on = alive[k];
-        let bit = bit_if(on, k);
-        shares += bit;
-        k += 1;
-    }
-    shares
-}
-
 // The input shares live once these leaves are the last.
 fn live_shares(listing: Listing, probe: [bool; 128], leaf: [bool; 128]) -> u64
     requires { ⌜ Wired (listing .shape .n) (listing .wires) × Shares (listing .shape .s) (listing .shape .d) ⌝ }
@@ -125,8 +102,8 @@ fn live_shares(listing: Listing, probe: [bool; 128], leaf: [bool; 128]) -> u64
 {
     let Shape { s, d, n } = listing.shape;
     let ws = listing.wires;
-    let alive = step::live_marks(n, ws, probe, leaf);
-    share_word(alive, s * d)
+    let alive = marks::live_marks(n, ws, probe, leaf);
+    shares::share_word(alive, s * d)
 }
 
 // The needed shares of the observed wires, which are marked.
@@ -140,87 +117,6 @@ pub fn needed_word(listing: Listing, probe: [bool; 128]) -> u64
     live_shares(listing, probe, leaf)
 }
 
-// How many shares of secret i are in the word.
-fn count_of(d: usize, i: usize, shares: u64) -> u32
-    requires { ⌜ (1 ≤ d) × (d ≤ 8) × (i * d + d ≤ 64) ⌝ }
-    ensures { λ r. ⌜ r ≡ onesOf d i shares ⌝ }
-{
-    let mask = ((1u64 << d) - 1) << (i * d);
-    u64::count_ones(shares & mask)
-}
-
-// Some secret has more shares in the word than the bound.
-pub fn over(s: usize, d: usize, shares: u64, bound: usize) -> bool
-    requires { ⌜ Shares s d ⌝ }
-    ensures { λ r. ⌜ r ≡ someOver s d shares bound ⌝ }
-{
-    let mut some = false;
-    let mut i = 0;
-    while i < s {
-        let count = count_of(d, i, shares);
-        some = some | (bound < count as usize);
-        i += 1;
-    }
-    some
-}
-
-// The order is 1 to 4 and below D.
-pub fn order_fits(d: usize, t: usize) -> bool
-    ensures { λ r. ⌜ r ≡ orderIn d t ⌝ }
-{
-    (1 <= t) & (t <= 4) & (t < d)
-}
-
-// Each held number is a wire's.
-fn all_named(places: [u8; 4], len: usize, n: usize) -> bool
-    requires { ⌜ len ≤ 4 ⌝ }
-    ensures { λ r. ⌜ r ≡ each (λ w. ltb w n) (take len places) ⌝ }
-{
-    let mut i = 0;
-    while i < len {
-        if n <= places[i] as usize {
-            return false;
-        }
-        i += 1;
-    }
-    true
-}
-
-// The set is not empty, no larger than the order, ascending, and names wires only.
-fn probes_fit(set: ProbeSet, n: usize, t: usize) -> bool
-    requires { ⌜ t ≤ 4 ⌝ }
-    ensures { λ r. ⌜ r ≡ probesIn n t set ⌝ }
-{
-    let places = set.places;
-    let len = set.len;
-    if len == 0 {
-        return false;
-    }
-    if t < len {
-        return false;
-    }
-    if !data::is_ascending(places, len) {
-        return false;
-    }
-    all_named(places, len, n)
-}
-
-// The tests of a call on one set, in their order: the first refusal, or none.
-fn check_set(listing: Listing, t: usize, set: ProbeSet) -> Outcome
-    ensures { λ r. ⌜ r ≡ checked (listing .shape) (listing .wires) t set ⌝ }
-{
-    if !records::records_fit(listing) {
-        return Outcome::Refused(Refusal::Records);
-    }
-    if !order_fits(listing.shape.d, t) {
-        return Outcome::Refused(Refusal::Order);
-    }
-    if !probes_fit(set, listing.shape.n, t) {
-        return Outcome::Refused(Refusal::Probes);
-    }
-    Outcome::Done
-}
-
 // The run of a set to its end, and what it comes to at the order; the list of steps has room for every run.
 fn observe(listing: Listing, t: usize, set: ProbeSet) -> Observed
     requires { ⌜ Accepted (listing .shape) (listing .wires) t set ⌝ }
@@ -228,11 +124,11 @@ fn observe(listing: Listing, t: usize, set: ProbeSet) -> Observed
 {
     let Shape { s, d, n } = listing.shape;
     let ws = listing.wires;
-    let probe = step::probe_marks(set);
+    let probe = marks::probe_marks(set);
     let run = run_to_end(n, ws, probe);
     let leaf = run.leaf;
     let shares = live_shares(listing, probe, leaf);
-    let undecided = over(s, d, shares, t);
+    let undecided = shares::over(s, d, shares, t);
     let steps = run.steps;
     let len = run.len;
     Observed {
@@ -257,7 +153,7 @@ fn needed_not(refusal: Refusal) -> Needed
 pub fn needs(listing: Listing, t: usize, set: ProbeSet) -> Needed
     ensures { λ r. ⌜ r ≡ lentNeeding (listing .shape) (listing .wires) t set ⌝ }
 {
-    let outcome = check_set(listing, t, set);
+    let outcome = asking::check_set(listing, t, set);
     match outcome {
         Outcome::Refused(refusal) => needed_not(refusal),
         Outcome::Done => {
@@ -287,7 +183,7 @@ fn padded_not(refusal: Refusal) -> Padded
 pub fn pads(listing: Listing, t: usize, set: ProbeSet) -> Padded
     ensures { λ r. ⌜ r ≡ lentPadding (listing .shape) (listing .wires) t set ⌝ }
 {
-    let outcome = check_set(listing, t, set);
+    let outcome = asking::check_set(listing, t, set);
     match outcome {
         Outcome::Refused(refusal) => padded_not(refusal),
         Outcome::Done => {

@@ -1,8 +1,6 @@
--- The parts of a run: the values wire by wire, the test of 14 from the counts, and a refusal.
-use mathlib.Core.Bool.{Bool, _&&_}
+-- The parts of a run: the values wire by wire, and a refusal.
 use mathlib.Core.List.{List}
-use Prim.Native.Nat.{ℕ, _^_, _≤_}
-use lib.Dec.{ltb}
+use Prim.Native.Nat.{ℕ}
 use lib.ListN.{getD, take}
 use Rattle.document.specs.Routine.{routineOf}
 use Rattle.document.specs.Running.{bit, gives, bits, firstValues}
@@ -11,7 +9,6 @@ use Rattle.data.specs.declared.Ran.{Ran}
 use Rattle.data.specs.declared.Refusal.{Refusal}
 use Rattle.data.specs.declared.Shape.{Shape}
 use Rattle.data.specs.declared.Wire.{Wire}
-use Rattle.records.specs.declared.Counts.{Counts}
 
 -- a refused run wrote nothing
 abbrev pub ranNot : Refusal → Ran
@@ -28,13 +25,3 @@ unsized n = record { s = 0; d = 0; n = n }
 -- the values of the first k wires
 unfoldable pub values : ℕ → List Wire → ℕ → ℕ → ℕ → ℕ → List ℕ
 values n ws shares randoms publics k = firstValues bit (routineOf (unsized n) ws) (bits 64 shares) (bits 64 randoms) (bits 64 publics) k
-
--- counts that a word has bits for
-pub record SmallCounts (first : ℕ) (c : Counts) : Type 0 where
-  pub shares-small : first ≤ 64
-  pub rands-small : c .rands ≤ 64
-  pub pubs-small : c .pubs ≤ 64
-
--- 14, from the counts
-unfoldable pub wordsFit : ℕ → Counts → ℕ → ℕ → ℕ → Bool
-wordsFit first c shares randoms publics = ltb shares (2 ^ first) && ltb randoms (2 ^ c .rands) && ltb publics (2 ^ c .pubs)

@@ -1,53 +1,17 @@
 // Running a routine: 0 or 1 for each of its wires, written into a lent buffer.
-use data::Kind;
+use counts::Counts;
 use data::Listing;
 use data::Outcome;
 use data::Ran;
 use data::Refusal;
 use data::Shape;
 use data::Wire;
-use records::Counts;
 ghost use mathlib.Core.Path.{_≡_};
 ghost use mathlib.Core.List.{_++_};
-ghost use Prim.Native.Nat.{_-_, _^_, _≤_, _<_};
-ghost use lib.Dec.{ltb};
+ghost use Prim.Native.Nat.{_≤_, _<_};
 ghost use lib.ListN.{length, getD, take, drop, set};
-ghost use Rattle.document.specs.Running.{bit, gives, bits};
 ghost use Rattle.document.specs.Lent.{RunsInto};
-ghost use Rattle.runner.specs.Run.{ranNot, valueFrom, values, SmallCounts, wordsFit};
-
-// Bit k of the word; beyond its 64 bits it has none set.
-fn bit_at(word: u64, k: usize) -> u8
-    ensures { λ r. ⌜ r ≡ getD (bits 64 word) k 0 ⌝ }
-{
-    if k < 64 {
-        let shifted = word >> k;
-        (shifted & 1) as u8
-    } else {
-        0
-    }
-}
-
-// The other bit.
-fn turned(v: u8) -> u8
-    ensures { λ r. ⌜ r ≡ 1 - v ⌝ }
-{
-    if v == 0 { 1 } else { 0 }
-}
-
-// What a wire of the kind gives, from its share, random or public bit or the values of its operands.
-fn value_of(k: Kind, share: u8, random: u8, public: u8, a: u8, b: u8) -> u8
-    ensures { λ r. ⌜ r ≡ gives bit k share random public a b ⌝ }
-{
-    match k {
-        Kind::Share => share,
-        Kind::Rand => random,
-        Kind::Pub => public,
-        Kind::Xor => a ^ b,
-        Kind::And => a & b,
-        Kind::Not => turned(a),
-    }
-}
+ghost use Rattle.runner.specs.Run.{ranNot, valueFrom, values};
 
 // The value of wire u, if it is one of the w wires that have theirs.
 fn earlier_value(buf: &[u8], w: usize, u: usize) -> u8
@@ -65,29 +29,7 @@ fn put_value(w: usize, x: Wire, share: u8, random: u8, public: u8, buf: &mut [u8
     let a = earlier_value(buf, w, x.a as usize);
     let b = earlier_value(buf, w, x.b as usize);
     let k = x.kind;
-    buf[w] = value_of(k, share, random, public, a, b);
-}
-
-// The word has no bit set from bit k on.
-fn word_fits(word: u64, k: usize) -> bool
-    requires { ⌜ k ≤ 64 ⌝ }
-    ensures { λ r. ⌜ r ≡ ltb word (2 ^ k) ⌝ }
-{
-    // a shift by 64 is none: every word has 64 bits
-    if k == 64 {
-        true
-    } else {
-        let bound: u64 = 1 << k;
-        word < bound
-    }
-}
-
-// No share, random or public bit is set beyond the routine's own.
-fn words_fit(first: usize, c: Counts, shares: u64, randoms: u64, publics: u64) -> bool
-    requires { ⌜ SmallCounts first c ⌝ }
-    ensures { λ r. ⌜ r ≡ wordsFit first c shares randoms publics ⌝ }
-{
-    word_fits(shares, first) & word_fits(randoms, c.rands) & word_fits(publics, c.pubs)
+    buf[w] = values::value_of(k, share, random, public, a, b);
 }
 
 // A refused run wrote nothing.
@@ -116,12 +58,12 @@ fn put_values(n: usize, ws: [Wire; 128], shares: u64, randoms: u64, publics: u64
         put_value(
             w,
             x,
-            bit_at(shares, w),
-            bit_at(randoms, c.rands),
-            bit_at(publics, c.pubs),
+            values::bit_at(shares, w),
+            values::bit_at(randoms, c.rands),
+            values::bit_at(publics, c.pubs),
             buf,
         );
-        let next = records::count_record(c, x);
+        let next = counts::count_record(c, x);
         c = next;
         w += 1;
     }
@@ -136,8 +78,8 @@ pub fn run(listing: Listing, shares: u64, randoms: u64, publics: u64, buf: &mut 
     }
     let Shape { s, d, n } = listing.shape;
     let ws = listing.wires;
-    let counts = records::count_records(n, ws);
-    if !words_fit(s * d, counts, shares, randoms, publics) {
+    let counts = counts::count_records(n, ws);
+    if !values::words_fit(s * d, counts, shares, randoms, publics) {
         return not_run(Refusal::Bits);
     }
     if buf.len() < n {

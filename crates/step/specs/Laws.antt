@@ -1,4 +1,2 @@
--- The laws of the passes, of the counts of consumers, and of the search by them.
-pub mod Passes
-pub mod Consumers
+-- The laws of the search.
 pub mod Next

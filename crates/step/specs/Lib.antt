@@ -1,5 +1,3 @@
--- What the passes over the wires and the search for the next step follow, and the laws about them.
-pub mod Passes
-pub mod Consumers
+-- What the search for the next step goes by, and the laws about it.
 pub mod Next
 pub mod Laws

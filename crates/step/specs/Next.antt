@@ -12,8 +12,8 @@ use Rattle.data.specs.declared.Wire.{Wire}
 use Rattle.data.specs.declared.Step.{Step}
 use Rattle.step.specs.declared.Next.{Next}
 use Rattle.step.specs.declared.Next.the-variants.{End, Pad}
-use Rattle.step.specs.Passes.{Wired}
-use Rattle.step.specs.Consumers.{Consumers}
+use Rattle.marks.specs.Passes.{Wired}
+use Rattle.consumers.specs.Consumers.{Consumers}
 
 -- the step that a search found, or none
 abbrev pub stepIn : Next → Option Step

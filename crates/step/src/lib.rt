@@ -1,185 +1,20 @@
-// One step of the padding rule: the marks that a search goes by, and the search for the next step.
+// One step of the padding rule: the search for the lowest wire that can be padded, and by what.
 use data::Kind;
-use data::ProbeSet;
 use data::Step;
 use data::Wire;
 ghost use mathlib.Core.Path.{_≡_};
-ghost use mathlib.Core.Bool.{true, cond};
+ghost use mathlib.Core.Bool.{cond};
 ghost use mathlib.Core.Option.{none};
 ghost use Prim.Native.Nat.{_<_, max};
-ghost use lib.ListN.{getD, set};
-ghost use Rattle.data.specs.Basics.{mark};
-ghost use Rattle.document.specs.Routine.{isRand, operandsOf};
-ghost use Rattle.data.specs.ProbeSets.{held};
-ghost use Rattle.document.specs.Padding.{probed, firstLeaves, live, padsOf, padsBy, firstPad, lowestPad, nextStep};
+ghost use Rattle.document.specs.Padding.{padsOf, padsBy, firstPad, lowestPad, nextStep};
 ghost use Rattle.data.specs.declared.Kind.the-variants.{Xor};
-ghost use Rattle.step.specs.Passes.{wired, Wired, Low, LowProbes};
-ghost use Rattle.step.specs.Consumers.{bumped, bumpedTwo, countedWith, Spare, Consumers};
+ghost use Rattle.marks.specs.Passes.{wired, Wired, Low};
 ghost use Rattle.step.specs.Next.{stepIn, isXor, servesBy, SearchFits};
 
 // What a search for the next step found.
 pub enum Next {
     End,
     Pad(Step),
-}
-
-// The marks, and wire u marked if it is a random.
-fn mark_rand(m: [bool; 128], u: usize, k: Kind) -> [bool; 128]
-    requires { ⌜ u < 128 ⌝ }
-    ensures { λ r. ⌜ r ≡ cond (isRand k) (set m u true) m ⌝ }
-{
-    let mut v = m;
-    match k {
-        Kind::Share => v,
-        Kind::Rand => {
-            v[u] = true;
-            v
-        }
-        Kind::Pub => v,
-        Kind::Xor => v,
-        Kind::And => v,
-        Kind::Not => v,
-    }
-}
-
-// Every random wire as a leaf.
-pub fn first_leaves(n: usize, ws: [Wire; 128]) -> [bool; 128]
-    requires { ⌜ Wired n ws ⌝ }
-    ensures { λ r. ⌜ r ≡ firstLeaves (wired n ws) ⌝ }
-{
-    let mut leaf = [false; 128];
-    let mut u = 0;
-    while u < n {
-        let x = ws[u];
-        let k = x.kind;
-        let next = mark_rand(leaf, u, k);
-        leaf = next;
-        u += 1;
-    }
-    leaf
-}
-
-// The probed wires marked.
-pub fn probe_marks(set: ProbeSet) -> [bool; 128]
-    requires { ⌜ LowProbes set ⌝ }
-    ensures { λ r. ⌜ r ≡ probed (held set) ⌝ }
-{
-    let places = set.places;
-    let len = set.len;
-    let mut m = [false; 128];
-    let mut i = 0;
-    while i < len {
-        let w = places[i] as usize;
-        m[w] = true;
-        i += 1;
-    }
-    m
-}
-
-// The operands of a wire marked.
-fn mark_operands(m: [bool; 128], x: Wire) -> [bool; 128]
-    requires { ⌜ Low x ⌝ }
-    ensures { λ r. ⌜ r ≡ mark (operandsOf (x .kind) (x .a) (x .b)) m ⌝ }
-{
-    let mut v = m;
-    let a = x.a as usize;
-    let b = x.b as usize;
-    let k = x.kind;
-    match k {
-        Kind::Share => v,
-        Kind::Rand => v,
-        Kind::Pub => v,
-        Kind::Xor => {
-            v[a] = true;
-            v[b] = true;
-            v
-        }
-        Kind::And => {
-            v[a] = true;
-            v[b] = true;
-            v
-        }
-        Kind::Not => {
-            v[a] = true;
-            v
-        }
-    }
-}
-
-// The live wires: going down from the last wire meets each after all its consumers.
-pub fn live_marks(n: usize, ws: [Wire; 128], probe: [bool; 128], leaf: [bool; 128]) -> [bool; 128]
-    requires { ⌜ Wired n ws ⌝ }
-    ensures { λ r. ⌜ r ≡ live (wired n ws) probe leaf ⌝ }
-{
-    let mut m = probe;
-    let mut u = n;
-    while 0 < u {
-        u -= 1;
-        if m[u] && !leaf[u] {
-            let x = ws[u];
-            let next = mark_operands(m, x);
-            m = next;
-        }
-    }
-    m
-}
-
-// One more at place a.
-fn count_one(counts: [u8; 128], a: usize) -> [u8; 128]
-    requires { ⌜ (a < 128) × (getD counts a 0 < 255) ⌝ }
-    ensures { λ r. ⌜ r ≡ bumped counts a ⌝ }
-{
-    let mut c = counts;
-    c[a] += 1;
-    c
-}
-
-// One more at both places; a consumer that names an operand twice counts once.
-fn count_two(counts: [u8; 128], a: usize, b: usize) -> [u8; 128]
-    requires { ⌜ (a < 128) × (b < 128) × Spare counts ⌝ }
-    ensures { λ r. ⌜ r ≡ bumpedTwo a b counts ⌝ }
-{
-    let first = count_one(counts, a);
-    if b == a {
-        return first;
-    }
-    count_one(first, b)
-}
-
-// One more for each operand of a wire.
-fn count_operands(counts: [u8; 128], x: Wire) -> [u8; 128]
-    requires { ⌜ Low x × Spare counts ⌝ }
-    ensures { λ r. ⌜ r ≡ countedWith (x .kind) (x .a) (x .b) counts ⌝ }
-{
-    let a = x.a as usize;
-    let b = x.b as usize;
-    let k = x.kind;
-    match k {
-        Kind::Share => counts,
-        Kind::Rand => counts,
-        Kind::Pub => counts,
-        Kind::Xor => count_two(counts, a, b),
-        Kind::And => count_two(counts, a, b),
-        Kind::Not => count_one(counts, a),
-    }
-}
-
-// How many live consumers that are no leaves each wire has.
-fn consumer_counts(n: usize, ws: [Wire; 128], leaf: [bool; 128], alive: [bool; 128]) -> [u8; 128]
-    requires { ⌜ Wired n ws ⌝ }
-    ensures { λ r. ⌜ Consumers n ws leaf alive 0 r ⌝ }
-{
-    let mut counts = [0u8; 128];
-    let mut u = n;
-    while 0 < u {
-        u -= 1;
-        if alive[u] && !leaf[u] {
-            let x = ws[u];
-            let next = count_operands(counts, x);
-            counts = next;
-        }
-    }
-    counts
 }
 
 fn higher(a: usize, b: usize) -> usize
@@ -305,7 +140,7 @@ pub fn next_step(n: usize, ws: [Wire; 128], probe: [bool; 128], leaf: [bool; 128
     requires { ⌜ Wired n ws ⌝ }
     ensures { λ r. ⌜ stepIn r ≡ nextStep (wired n ws) probe leaf ⌝ }
 {
-    let alive = live_marks(n, ws, probe, leaf);
-    let counts = consumer_counts(n, ws, leaf, alive);
+    let alive = marks::live_marks(n, ws, probe, leaf);
+    let counts = consumers::consumer_counts(n, ws, leaf, alive);
     lowest_pad(n, ws, probe, leaf, alive, counts)
 }

@@ -1,2 +1,2 @@
 -- What the functions of this crate ask of each other.
-pub mod Ceilings
+pub mod Operands

@@ -8,7 +8,7 @@ use Rattle.data.specs.declared.Shape.{Shape}
 use Rattle.data.specs.declared.Wire.{Wire}
 use Rattle.data.specs.declared.Word.the-variants as W
 use Rattle.data.specs.declared.Written.{Written}
-use Rattle.records.specs.Records.{recordAt}
+use Rattle.counts.specs.Counting.{recordAt}
 use Rattle.pieces.specs.Pieces.{line2, piece}
 use Rattle.pieces.specs.declared.Part.{Part}
 use Rattle.pieces.specs.declared.Part.the-variants.{Wires, Outputs}

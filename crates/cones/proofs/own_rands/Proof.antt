@@ -8,9 +8,9 @@ use Rattle.cones.specs.Laws.Making.{inside, place-below, no-own, own-tur
 use Rattle.cones.specs.Tables.{ownRands}
 use Rattle.document.specs.Reading.{routineIn}
 use Rattle.records.specs.Laws.Fitting.{fit-of}
-use Rattle.records.specs.Laws.Counts.{counts-none, counts-more, counts-room}
-use Rattle.records.specs.Records.{recordAt, countsOf, withRecord}
-use Rattle.records.specs.declared.Counts.{Counts}
+use Rattle.counts.specs.Laws.Counts.{counts-none, counts-more, counts-room}
+use Rattle.counts.specs.Counting.{recordAt, countsOf, withRecord}
+use Rattle.counts.specs.declared.Counts.{Counts}
 use Rattle.cones.proofs.own_rands.Statement.{statement}
 use Rattle.cones.proofs.own_rands.Tie as tie
 

@@ -17,8 +17,8 @@ use Rattle.data.specs.declared.Kind.{Kind}
 use Rattle.data.specs.declared.Kind.the-variants.{Share, Rand, Pub, Xor, And, Not}
 use Rattle.data.specs.declared.Wire.{Wire}
 use Rattle.data.specs.declared.Shape.{Shape}
-use Rattle.records.specs.Records.{recordAt, countsOf}
-use Rattle.records.specs.Laws.Counts.{wire-is, rands-is}
+use Rattle.counts.specs.Counting.{recordAt, countsOf}
+use Rattle.counts.specs.Laws.Counts.{wire-is, rands-is}
 use Rattle.records.specs.Laws.Fitting.{fit-of, a-within, b-within}
 use Rattle.cones.specs.Tables.{built, shareBit, randBit, gather, coneAt, shareCones, randCones, ownOf, ownAt, ownRands}
 use Rattle.cones.specs.Laws.Tables.{gather-ext}

@@ -20,9 +20,9 @@ use Rattle.data.specs.declared.Refusal.{Refusal}
 use Rattle.data.specs.declared.Refusal.the-variants as No
 use Rattle.data.specs.declared.State.{State}
 use Rattle.data.specs.declared.Wire.{Wire}
-use Rattle.taking.specs.Ceilings.{UnderCeilings}
+use Rattle.state.specs.Ceilings.{UnderCeilings}
 use Rattle.taking.proofs.LineLaws.{take-bounded}
-use Rattle.reader.proofs.TextLaws.{begun-bounded}
+use Rattle.lines.proofs.Laws.{begun-bounded}
 use Rattle.data.specs.declared.Filled.{Filled}
 use Rattle.document.specs.Lent.{readFor, filled, filledWith, lentRead, lentReadInto, ReadsInto}
 

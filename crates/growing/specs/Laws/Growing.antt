@@ -18,8 +18,8 @@ use Rattle.document.specs.Laws.Needed.{asc-low}
 use Rattle.data.specs.declared.ProbeSet.{ProbeSet}
 use Rattle.data.specs.declared.Wire.{Wire}
 use Rattle.data.specs.declared.Shape.{Shape}
-use Rattle.records.specs.Records.{recordAt}
-use Rattle.records.specs.Laws.Counts.{wire-is}
+use Rattle.counts.specs.Counting.{recordAt}
+use Rattle.counts.specs.Laws.Counts.{wire-is}
 use Rattle.cones.specs.Laws.Spared.{Steady, plain-steady, strong-steady}
 use Rattle.data.specs.declared.Which.{Which}
 use Rattle.data.specs.declared.Which.the-variants.{Plain, Strong}

@@ -2,7 +2,7 @@
 use mathlib.Core.Bool.{Bool, cond}
 use mathlib.Core.Path.{sym, ap}
 use Rattle.data.specs.declared.Judged.{Judged}
-use Rattle.judge.specs.Search.{answerOf}
+use Rattle.judge.specs.Answers.{answerOf}
 use Rattle.judge.proofs.answer_of.Statement.{statement}
 use Rattle.data.specs.declared.Verdict.the-variants as Says
 use Rattle.judge.proofs.answer_of.Tie as tie

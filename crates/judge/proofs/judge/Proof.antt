@@ -2,8 +2,8 @@
 use mathlib.Core.Path.{sym, _∙_}
 use borrow.Author.Needs.{needs}
 use borrow.Author.Tests.{not-true, not-false}
-use Rattle.rule.specs.Laws.Calls.{order-high}
-use Rattle.judge.specs.Laws.Sizes.{not-records, not-order, judged-answer, order-low}
+use Rattle.asking.specs.Laws.Checks.{order-high}
+use Rattle.judge.specs.Laws.Answers.{not-records, not-order, judged-answer, order-low}
 use Rattle.judge.proofs.judge.Statement.{statement}
 use Rattle.judge.proofs.judge.Tie as tie
 

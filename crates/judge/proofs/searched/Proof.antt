@@ -3,8 +3,8 @@ use mathlib.Core.Path.{ap, _∙_, subst, sym}
 use Prim.Native.Nat.{ℕ, _≤_}
 use borrow.Author.Needs.{needs}
 use Rattle.growing.specs.Growing.{opensIn}
-use Rattle.judge.specs.Search.{foundUpTo}
-use Rattle.judge.specs.Laws.Sizes.{largest-few}
+use Rattle.searching.specs.Search.{foundUpTo}
+use Rattle.judge.specs.Laws.Answers.{largest-few}
 use Rattle.judge.proofs.searched.Statement.{statement}
 use Rattle.judge.proofs.searched.Tie as tie
 

@@ -26,7 +26,7 @@ use Rattle.data.specs.declared.Wire.{Wire}
 use Rattle.data.specs.declared.Shape.{Shape}
 use Rattle.data.specs.declared.Written.{Written}
 use Rattle.records.specs.Laws.Fitting.{fit-of, share-number}
-use Rattle.records.specs.Records.{recordAt}
+use Rattle.counts.specs.Counting.{recordAt}
 use Rattle.copies.specs.First.{fetched, clipped, firstOf}
 use Rattle.copies.specs.Laws.Blanks.{length-blanks}
 

@@ -5,12 +5,10 @@ use Prim.Native.Nat.{ℕ, zero, suc}
 use Prim.Native.Char.{code}
 use Prim.Native.String.{String, [] as none, _∷_ as _then_}
 use lib.ListN.{replicate}
-use Rattle.data.specs.Basics.{same, each}
 use Rattle.data.specs.Refusals.{numberOf}
-use Rattle.document.specs.Routine.{inRange, operandsOf}
-use Rattle.document.specs.Lines.{cut, front, heads, join, number, decimal, wordOf, ofFields, textOfLines}
-use Rattle.document.specs.Reading.{made, marked, isNext, earlier, hasRoom, make, markOut, takeLine, whole-reading}
-use Rattle.document.specs.Reading.{blanks, readLines, shareRecords, begun, fromHeader, fromFirst, reading, routineIn}
+use Rattle.document.specs.Lines.{textOfLines}
+use Rattle.document.specs.Reading.{whole-reading}
+use Rattle.document.specs.Reading.{reading, routineIn}
 use Rattle.document.specs.Examples.{exampleA}
 use Rattle.data.specs.declared.Line.{Line}
 use Rattle.data.specs.declared.Line.the-variants.{Head, Rand, Pub, Not, Out}

@@ -5,8 +5,9 @@ use Prim.Native.Nat.{ℕ, _-_, _≤_}
 use native.Mathlib.Omega.{arith}
 use borrow.Author.Needs.{needs}
 use Rattle.data.specs.Basics.{all}
-use Rattle.records.specs.Laws.Counts.{all-none, all-more}
-use Rattle.records.specs.Records.{recordAt, fitsAt}
+use Rattle.counts.specs.Counting.{recordAt}
+use Rattle.records.specs.Laws.Parts.{all-none, all-more}
+use Rattle.records.specs.Records.{fitsAt}
 use Rattle.records.proofs.all_fit.Statement.{statement}
 use Rattle.records.proofs.all_fit.Tie as tie
 

@@ -1,12 +1,11 @@
 -- `records::records_fit` meets its contract; each return is one part of the test of refusal 11 (7.11).
-use mathlib.Core.Path.{_≡_, sym, ap, _∙_}
+use mathlib.Core.Path.{sym, ap, _∙_}
 use native.Mathlib.Omega.{arith}
 use borrow.Author.Tests.{not-true, not-false}
 use borrow.Author.Needs.{needs}
-use lib.ListN.{length}
 use Rattle.data.proofs.Listings.{listing-long}
-use Rattle.records.specs.Laws.Counts.{in-range, too-long, range-fails, shares-fail, ceilings-fail, rest-fits}
-use Rattle.records.specs.Records.{ceilingsMet}
+use Rattle.counts.specs.Counting.{ceilingsMet}
+use Rattle.records.specs.Laws.Parts.{in-range, too-long, range-fails, shares-fail, ceilings-fail, rest-fits}
 use Rattle.records.proofs.records_fit.Statement.{statement}
 use Rattle.records.proofs.records_fit.Tie as tie
 

@@ -7,7 +7,7 @@ use native.Mathlib.Nat.{div-le-self, mod-le}
 use native.Mathlib.Omega.{arith}
 use borrow.Author.Tests.{leb-true, ltb-true, ltb-false, eqb-true}
 use lib.Dec.{eqb, ltb, leb}
-use lib.ListN.{length, take}
+use lib.ListN.{length}
 use lib.Seq.{length-take-le}
 use Rattle.data.specs.Basics.{all}
 use Rattle.document.specs.Routine.{inRange, fits, routineOf, wellFormed, recordsFit}
@@ -16,8 +16,9 @@ use Rattle.data.specs.declared.Kind.{Kind}
 use Rattle.data.specs.declared.Kind.the-variants.{Share, Rand, Pub, Xor, And, Not}
 use Rattle.data.specs.declared.Wire.{Wire}
 use Rattle.data.specs.declared.Shape.{Shape}
-use Rattle.records.specs.Records.{Fit, recordAt, countsOf, Ranged, fitsAt}
-use Rattle.records.specs.Laws.Counts.{in-range, fit-is}
+use Rattle.counts.specs.Counting.{recordAt, countsOf}
+use Rattle.records.specs.Records.{Fit, fitsAt}
+use Rattle.records.specs.Laws.Parts.{in-range, fit-is}
 
 pub long-of : (σ : Shape) (ws : List Wire) → recordsFit σ ws ≡ true → σ .n ≤ length ws
 unfolding recordsFit

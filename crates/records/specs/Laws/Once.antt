@@ -2,7 +2,6 @@
 use mathlib.Core.Path.{_≡_, sym, _∙_}
 use mathlib.Core.Bool.{Bool}
 use mathlib.Core.List.{List}
-use Prim.Native.Nat.{ℕ}
 use Rattle.document.specs.Routine.{recordsFit}
 use Rattle.data.specs.declared.Wire.{Wire}
 use Rattle.data.specs.declared.Shape.{Shape}

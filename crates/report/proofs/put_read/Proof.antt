@@ -1,7 +1,7 @@
 -- `report::put_read` meets its contract; each return is one outcome of the read.
 use native.Mathlib.Omega.{arith}
 use borrow.Author.Needs.{needs}
-use Rattle.report.specs.Laws.Orders.{done-lines, refused-lines}
+use Rattle.report.specs.Laws.Lines.{done-lines, refused-lines}
 use Rattle.buffer.specs.Laws.Puts.{put-same}
 use Rattle.report.proofs.put_read.Statement.{statement}
 use Rattle.report.proofs.put_read.Tie as tie
@@ -14,7 +14,7 @@ orders-requires c κs = search needs
 
 put-orders-requires : tie.Need-put-orders-requires
 put-orders-requires c κs = let s = c .before .before .before .before .before .before in
-    (omega (arith, c .before .orders .ensures), s .pre .0 (c .before .before .before .enum-told .given .1), s .pre .1)
+    (s .pre .0 (c .before .before .before .enum-told .given .1), omega (arith, c .before .orders .ensures, s .pre .1))
 
 enum-known-outcome : tie.Need-enum-known-outcome
 enum-known-outcome c = search needs

@@ -1,7 +1,7 @@
 -- `report::report` meets its contract: what is put of the read is what is printed of the text (8.6, 8.8).
 use borrow.Author.Needs.{needs}
 use Rattle.report.specs.Laws.Reports.{reported}
-use Rattle.report.specs.Laws.Orders.{read-fits}
+use Rattle.report.specs.Laws.Lines.{read-fits}
 use Rattle.report.proofs.report.Statement.{statement}
 use Rattle.report.proofs.report.Tie as tie
 

@@ -9,8 +9,7 @@ use Rattle.document.specs.Desk.{textLines, deskPrints}
 use Rattle.data.specs.declared.Read.{Read}
 use Rattle.buffer.specs.Put.{Put, wrote}
 use Rattle.buffer.specs.Laws.Puts.{wrote-first}
-use Rattle.report.specs.Orders.{reportRoom}
-use Rattle.report.specs.Reports.{Reported}
+use Rattle.report.specs.Reports.{reportRoom, Reported}
 use Rattle.report.specs.Laws.Rooms.{desk-few}
 
 pub reported : {buffer after : List ℕ} {r : ℕ} (text : List ℕ) (got : Read) → got ≡ reading text → reportRoom ≤ length buffer

@@ -4,7 +4,7 @@ use Prim.Native.Nat.{_*_}
 use borrow.Author.Needs.{needs}
 use Rattle.document.specs.Padding.{word, live}
 use Rattle.data.specs.Basics.{at}
-use Rattle.step.specs.Passes.{wired}
+use Rattle.marks.specs.Passes.{wired}
 use Rattle.rule.specs.Laws.Run.{needed-same}
 use Rattle.rule.specs.declared.Run.{Run}
 use Rattle.rule.proofs.needed_word.Statement.{statement}

@@ -1,7 +1,8 @@
 -- `rule::needs` meets its contract: a refusal, or what the set comes to.
 use mathlib.Core.Path.{sym, _∙_}
 use borrow.Author.Needs.{needs}
-use Rattle.rule.specs.Laws.Answers.{passed-of, needing-not, needing-done}
+use Rattle.asking.specs.Laws.Checks.{passed-of}
+use Rattle.rule.specs.Laws.Answers.{needing-not, needing-done}
 use Rattle.rule.proofs.needs.Statement.{statement}
 use Rattle.rule.proofs.needs.Tie as tie
 

@@ -2,7 +2,8 @@
 use mathlib.Core.Path.{_≡_}
 use borrow.Author.Needs.{needs}
 use lib.ListN.{length}
-use Rattle.rule.specs.Laws.Calls.{order-high, probes-low, wired-of, shares-of}
+use Rattle.asking.specs.Laws.Checks.{order-high}
+use Rattle.rule.specs.Laws.Calls.{probes-low, wired-of, shares-of}
 use Rattle.rule.specs.Laws.Answers.{observed-is}
 use Rattle.rule.proofs.observe.Statement.{statement}
 use Rattle.rule.proofs.observe.Tie as tie

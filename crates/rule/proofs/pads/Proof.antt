@@ -1,7 +1,8 @@
 -- `rule::pads` meets its contract: a refusal, or what the set comes to.
 use mathlib.Core.Path.{sym, _∙_}
 use borrow.Author.Needs.{needs}
-use Rattle.rule.specs.Laws.Answers.{passed-of, padding-not, padding-done}
+use Rattle.asking.specs.Laws.Checks.{passed-of}
+use Rattle.rule.specs.Laws.Answers.{padding-not, padding-done}
 use Rattle.rule.proofs.pads.Statement.{statement}
 use Rattle.rule.proofs.pads.Tie as tie
 

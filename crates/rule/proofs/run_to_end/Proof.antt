@@ -11,7 +11,7 @@ use lib.ListN.{replicate}
 use Rattle.document.specs.Padding.{nextStep}
 use Rattle.document.specs.Judgements.{noStep}
 use Rattle.step.specs.Next.{stepIn}
-use Rattle.step.specs.Passes.{wired}
+use Rattle.marks.specs.Passes.{wired}
 use Rattle.rule.specs.Run.{goneOn, runBegun}
 use Rattle.rule.specs.Laws.Run.{run-full, run-ended, run-more, next-below, run-all}
 use Rattle.rule.specs.declared.Run.{Run}

@@ -1,20 +1,22 @@
--- The calls on one set: the outcome of their tests, in their order, and the answers by it.
+-- The answers of the two calls on one set, by the outcome of their tests.
 use mathlib.Core.Path.{_≡_, refl, sym, ap, ap₂, _∙_}
-use mathlib.Core.Bool.{Bool, true, false, _&&_, cond}
+use mathlib.Core.Bool.{Bool, cond}
 use mathlib.Core.List.{List, _∷_, _++_}
-use Prim.Native.Nat.{_*_, ℕ, zero, suc, _+_, _-_, _≤_}
+use Prim.Native.Nat.{ℕ, zero, suc, _+_, _-_, _*_, _≤_}
 use native.Mathlib.Omega.{arith}
 use lib.Dec.{leb}
 use lib.ListN.{length, take, drop, replicate, length-replicate}
-use lib.Seq.{sets, sets-eq, length-take-le, take-append-add}
-use Rattle.document.specs.Routine.{Routine, routineOf, wellFormed, recordsFit}
+use lib.Seq.{sets, sets-eq, take-append-add}
+use Rattle.data.specs.Basics.{Marks, at}
+use Rattle.document.specs.Routine.{Routine, routineOf}
 use Rattle.data.specs.ProbeSets.{held}
 use Rattle.document.specs.Padding.{probed, steps, neededShares, bitsOf, neededOf, word, live}
-use Rattle.document.specs.Judgements.{plain, isOpen, orderFits, probesFit, setRefusal, neededNot, needing, noStep, paddedNot, stepList, padding}
+use Rattle.document.specs.Judgements.{plain, isOpen, setRefusal, neededNot, needing, noStep, paddedNot, stepList, padding}
 use Rattle.document.specs.Lent.{lent, lentNeeding, lentPadding}
-use Rattle.data.specs.Laws.Tests.{clash, cond-true, cond-false, leb-true, true-leb, bool-cases}
+use Rattle.data.specs.Laws.Tests.{cond-true, true-leb}
 use Rattle.data.specs.declared.Refusal.{Refusal}
 use Rattle.data.specs.declared.Refusal.the-variants as No
+use Rattle.data.specs.declared.Outcome.{Outcome}
 use Rattle.data.specs.declared.Outcome.the-variants.{Done, Refused}
 use Rattle.data.specs.declared.Wire.{Wire}
 use Rattle.data.specs.declared.Shape.{Shape}
@@ -22,16 +24,16 @@ use Rattle.data.specs.declared.ProbeSet.{ProbeSet}
 use Rattle.data.specs.declared.Step.{Step}
 use Rattle.data.specs.declared.Needed.{Needed}
 use Rattle.data.specs.declared.Padded.{Padded}
+use Rattle.marks.specs.Passes.{wired}
+use Rattle.shares.specs.Words.{onesOf, someOver}
+use Rattle.asking.specs.Checks.{Accepted, checked}
+use Rattle.asking.specs.Laws.Checks.{settled, passed-of, by-outcome}
 use Rattle.rule.specs.declared.Run.{Run}
-use Rattle.rule.specs.Run.{runOf, neededBy}
-use Rattle.rule.specs.Laws.Run.{needed-is, steps-are, len-is, run-same, needed-same}
-use Rattle.rule.specs.Words.{onesOf, someOver}
-use Rattle.rule.specs.Calls.{orderIn, probesIn, Accepted, checked, observedOf}
-use Rattle.data.specs.declared.Outcome.{Outcome}
 use Rattle.rule.specs.declared.Observed.{Observed}
+use Rattle.rule.specs.Run.{runOf, neededBy}
+use Rattle.rule.specs.Calls.{observedOf}
+use Rattle.rule.specs.Laws.Run.{needed-is, steps-are, len-is, run-same, needed-same}
 use Rattle.rule.specs.Laws.Calls.{few-steps}
-use Rattle.step.specs.Passes.{wired}
-use Rattle.data.specs.Basics.{Marks, at}
 
 -- ---- the list of steps
 
@@ -56,76 +58,9 @@ listed m ss h =
     ∙ sym (take-append-add ss (replicate m noStep) (m - length ss))
     ∙ ap (λ (k : ℕ). take k (ss ++ replicate m noStep)) (sym e)
 
--- ---- the outcome of the tests
-
--- 11, 12 and 13, in this order
-abbrev inOrder : {A : Type 0} → Bool → Bool → Bool → (Refusal → A) → A → A
-inOrder good order probes refuse answer = cond good (cond order (cond probes answer (refuse No.Probes)) (refuse No.Order)) (refuse No.Records)
-
--- what a call answers once its tests are made
-abbrev settled : {A : Type 0} → Outcome → (Refusal → A) → A → A
-settled Done refuse answer = answer
-settled (Refused f) refuse answer = refuse f
-
-abbrev isDone : Outcome → Bool
-isDone Done = true
-isDone (Refused f) = false
-
-settles : {A : Type 0} (g o p : Bool) (refuse : Refusal → A) (answer : A) → settled (inOrder g o p Refused Done) refuse answer ≡ inOrder g o p refuse answer
-settles true true true refuse answer = refl
-settles true true false refuse answer = refl
-settles true false p refuse answer = refl
-settles false o p refuse answer = refl
-
-all-three : (g o p : Bool) → inOrder g o p Refused Done ≡ Done → (g ≡ true) × (o ≡ true) × (p ≡ true)
-all-three true true true e = (refl, refl, refl)
-all-three true true false e = clash (ap isDone e) refl
-all-three true false p e = clash (ap isDone e) refl
-all-three false o p e = clash (ap isDone e) refl
-
 module _ (σ : Shape) (ws : List Wire) (t : ℕ) (set : ProbeSet) where
   abbrev R : Routine
   R = routineOf σ ws
-
-  -- 7.22: the order of the refusals, by the tests of the code
-  in-order : {A : Type 0} (refuse : Refusal → A) (answer : Routine → A)
-      → lent σ ws (refuse No.Records) (λ R. setRefusal R t set refuse (answer R))
-      ≡ inOrder (recordsFit σ ws) (orderIn (σ .d) t) (probesIn (σ .n) t set) refuse (answer R)
-  unfolding lent setRefusal recordsFit orderIn orderFits probesIn probesFit
-  in-order {A} refuse answer =
-      let whole : ℕ → Bool → A = λ (m : ℕ) (b : Bool). inOrder b (orderIn (σ .d) t) (probesIn m t set) refuse (answer R) in
-      bool-cases (leb (σ .n) (length ws))
-      (λ long. cond-true _ _ long
-      ∙ ap (λ (m : ℕ). whole m (wellFormed R)) (length-take-le (σ .n) ws (leb-true (σ .n) (length ws) long))
-      ∙ ap (λ (b : Bool). whole (σ .n) (b && wellFormed R)) (sym long))
-      (λ short. cond-false _ _ short ∙ ap (λ (b : Bool). whole (σ .n) (b && wellFormed R)) (sym short))
-
-  checked-is : checked σ ws t set ≡ inOrder (recordsFit σ ws) (orderIn (σ .d) t) (probesIn (σ .n) t set) Refused Done
-  unfolding checked
-  checked-is = in-order Refused (λ _. Done)
-
-  pub check-records : recordsFit σ ws ≡ false → Refused No.Records ≡ checked σ ws t set
-  check-records e = sym (checked-is ∙ cond-false _ _ e)
-
-  pub check-order : recordsFit σ ws ≡ true → orderIn (σ .d) t ≡ false → Refused No.Order ≡ checked σ ws t set
-  check-order g e = sym (checked-is ∙ cond-true _ _ g ∙ cond-false _ _ e)
-
-  pub check-probes : recordsFit σ ws ≡ true → orderIn (σ .d) t ≡ true → probesIn (σ .n) t set ≡ false → Refused No.Probes ≡ checked σ ws t set
-  check-probes g o e = sym (checked-is ∙ cond-true _ _ g ∙ cond-true _ _ o ∙ cond-false _ _ e)
-
-  pub check-passes : recordsFit σ ws ≡ true → orderIn (σ .d) t ≡ true → probesIn (σ .n) t set ≡ true → Done ≡ checked σ ws t set
-  check-passes g o e = sym (checked-is ∙ cond-true _ _ g ∙ cond-true _ _ o ∙ cond-true _ _ e)
-
-  pub passed-of : checked σ ws t set ≡ Done → Accepted σ ws t set
-  passed-of e = let a = all-three (recordsFit σ ws) (orderIn (σ .d) t) (probesIn (σ .n) t set) (sym checked-is ∙ e) in
-      record { good = a .0; order = a .1; probes = a .2 }
-
-  -- a call on one set answers by the outcome of its tests
-  by-outcome : {A : Type 0} (refuse : Refusal → A) (answer : Routine → A)
-      → settled (checked σ ws t set) refuse (answer R) ≡ lent σ ws (refuse No.Records) (λ R. setRefusal R t set refuse (answer R))
-  by-outcome refuse answer =
-      ap (λ (o : Outcome). settled o refuse (answer R)) checked-is ∙ settles (recordsFit σ ws) (orderIn (σ .d) t) (probesIn (σ .n) t set) refuse (answer R)
-      ∙ sym (in-order refuse answer)
 
   -- ---- the answers
 
@@ -165,14 +100,14 @@ module _ (σ : Shape) (ws : List Wire) (t : ℕ) (set : ProbeSet) where
 
   pub needing-not : (f : Refusal) → checked σ ws t set ≡ Refused f → neededNot f ≡ lentNeeding σ ws t set
   needing-not f e =
-      ap (λ (o : Outcome). settled o neededNot (needed-answer R)) (sym e) ∙ by-outcome neededNot needed-answer ∙ needing-asks
+      ap (λ (o : Outcome). settled o neededNot (needed-answer R)) (sym e) ∙ by-outcome σ ws t set neededNot needed-answer ∙ needing-asks
 
   pub needing-done : checked σ ws t set ≡ Done → (x : Observed) → x ≡ observedOf R t set
       → _≡_ {A = Needed} (record { outcome = Done; shares = x .shares; undecided = x .undecided }) (lentNeeding σ ws t set)
   unfolding needed-answer observedOf
   needing-done e x told =
       ap {B = Needed} (λ (y : Observed). record { outcome = Done; shares = y .shares; undecided = y .undecided }) told
-      ∙ ap (λ (o : Outcome). settled o neededNot (needed-answer R)) (sym e) ∙ by-outcome neededNot needed-answer ∙ needing-asks
+      ∙ ap (λ (o : Outcome). settled o neededNot (needed-answer R)) (sym e) ∙ by-outcome σ ws t set neededNot needed-answer ∙ needing-asks
 
   padded-answer : Routine → Padded
   padded-answer R =
@@ -184,14 +119,14 @@ module _ (σ : Shape) (ws : List Wire) (t : ℕ) (set : ProbeSet) where
 
   pub padding-not : (f : Refusal) → checked σ ws t set ≡ Refused f → paddedNot f ≡ lentPadding σ ws t set
   padding-not f e =
-      ap (λ (o : Outcome). settled o paddedNot (padded-answer R)) (sym e) ∙ by-outcome paddedNot padded-answer ∙ padding-asks
+      ap (λ (o : Outcome). settled o paddedNot (padded-answer R)) (sym e) ∙ by-outcome σ ws t set paddedNot padded-answer ∙ padding-asks
 
   -- 16 is never given: a run has no more steps than there are wires
   pub padding-done : checked σ ws t set ≡ Done → (x : Observed) → x ≡ observedOf R t set
       → _≡_ {A = Padded} (record { outcome = Done; steps = x .steps; len = x .len; undecided = x .undecided }) (lentPadding σ ws t set)
   unfolding padded-answer stepList observedOf
   padding-done e x told =
-      let few = few-steps σ ws (passed-of e .good) (held set) in
+      let few = few-steps σ ws (passed-of σ ws t set e .good) (held set) in
       ap {B = Padded} (λ (y : Observed). record { outcome = Done; steps = y .steps; len = y .len; undecided = y .undecided }) told
       ∙ sym (cond-true _ _ (true-leb (length (steps R (held set))) 128 few))
-      ∙ ap (λ (o : Outcome). settled o paddedNot (padded-answer R)) (sym e) ∙ by-outcome paddedNot padded-answer ∙ padding-asks
+      ∙ ap (λ (o : Outcome). settled o paddedNot (padded-answer R)) (sym e) ∙ by-outcome σ ws t set paddedNot padded-answer ∙ padding-asks

@@ -1,68 +1,27 @@
--- The tests of a call on one set, part by part, and what passed ones give.
-use mathlib.Core.Path.{_≡_, refl, ap, _∙_}
-use mathlib.Core.Bool.{Bool, true, false, _&&_}
+-- What the tests before a call on one set give, once they are passed.
+use mathlib.Core.Path.{_≡_, refl}
+use mathlib.Core.Bool.{true}
 use mathlib.Core.Logic.{inl, inr}
 use mathlib.Core.List.{List, [], _∷_}
-use Prim.Native.Nat.{ℕ, zero, suc, _+_, _≤_, _<_}
+use Prim.Native.Nat.{ℕ, zero, suc, _≤_, _<_}
 use native.Mathlib.Omega.{arith}
-use borrow.Author.Tests.{le-ltb, lt-leb}
 use lib.Dec.{ltb, leb}
-use lib.ListN.{length, getD, take, drop}
+use lib.ListN.{length, getD}
 use lib.Seq.{getD-take, length-take-le}
 use Rattle.data.specs.Basics.{each}
 use Rattle.document.specs.Routine.{routineOf, wellFormed, recordsFit}
-use Rattle.data.specs.ProbeSets.{held, ascending}
-use Rattle.data.specs.Laws.Placing.{held-next, held-ends}
+use Rattle.data.specs.ProbeSets.{held}
 use Rattle.document.specs.Padding.{steps}
-use Rattle.data.specs.Laws.Tests.{and-l, and-r, ltb-true, true-ltb, leb-true, true-leb, Mem, each-at}
+use Rattle.data.specs.Laws.Tests.{and-l, and-r, ltb-true, leb-true, Mem, each-at}
 use Rattle.document.specs.Laws.Sound.{sound}
 use Rattle.document.specs.Laws.Orders.{step-count}
 use Rattle.data.specs.declared.Wire.{Wire}
 use Rattle.data.specs.declared.Shape.{Shape}
 use Rattle.data.specs.declared.ProbeSet.{ProbeSet}
 use Rattle.records.specs.Laws.Fitting.{fit-of, a-within, b-within}
-use Rattle.step.specs.Passes.{Wired, LowProbes}
-use Rattle.rule.specs.Words.{Shares}
-use Rattle.rule.specs.Calls.{orderIn, probesIn}
-
-pub order-high : (d t : ℕ) → orderIn d t ≡ true → t ≤ 4
-unfolding orderIn
-order-high d t e = leb-true t 4 (search (and-l, and-r))
-
-module _ (n t : ℕ) (set : ProbeSet) where
-  pub empty-refused : set .len ≤ 0 → false ≡ probesIn n t set
-  unfolding probesIn
-  empty-refused h = simp (le-ltb 0 (set .len) h)
-
-  pub large-refused : 0 < set .len → t < set .len → false ≡ probesIn n t set
-  unfolding probesIn
-  large-refused l h = simp (true-ltb 0 (set .len) l, lt-leb (set .len) t h)
-
-  pub unordered-refused : 0 < set .len → set .len ≤ t → ascending (held set) ≡ false → false ≡ probesIn n t set
-  unfolding probesIn
-  unordered-refused l h a = simp (true-ltb 0 (set .len) l, true-leb (set .len) t h, a)
-
-  pub named-decides : 0 < set .len → set .len ≤ t → ascending (held set) ≡ true → each (λ w. ltb w n) (held set) ≡ probesIn n t set
-  unfolding probesIn
-  named-decides l h a = simp (true-ltb 0 (set .len) l, true-leb (set .len) t h, a)
-
--- the held wires from place i on are wires
-module _ (P : List ℕ) (len n : ℕ) (fits : len ≤ length P) where
-  pub named-on : (i : ℕ) → i < len → getD P i 0 < n → each (λ w. ltb w n) (drop i (take len P)) ≡ each (λ w. ltb w n) (drop (i + 1) (take len P))
-  unfolding each
-  named-on i l h = ap (each (λ w. ltb w n)) (held-next P len fits i l)
-      ∙ ap (λ (b : Bool). b && each (λ w. ltb w n) (drop (i + 1) (take len P))) (true-ltb (getD P i 0) n h)
-
-  pub named-not : (i : ℕ) → i < len → n ≤ getD P i 0 → each (λ w. ltb w n) (drop i (take len P)) ≡ false
-  unfolding each
-  named-not i l h = ap (each (λ w. ltb w n)) (held-next P len fits i l)
-      ∙ ap (λ (b : Bool). b && each (λ w. ltb w n) (drop (i + 1) (take len P))) (le-ltb (getD P i 0) n h)
-
-  pub named-end : (i : ℕ) → len ≤ i → each (λ w. ltb w n) (drop i (take len P)) ≡ true
-  unfolding each
-  named-end i l = ap (each (λ w. ltb w n)) (held-ends P len fits i l)
-
--- ---- what passed tests give
+use Rattle.marks.specs.Passes.{Wired, LowProbes}
+use Rattle.shares.specs.Words.{Shares}
+use Rattle.asking.specs.Checks.{probesIn}
 
 mem-at : (xs : List ℕ) (i : ℕ) → i < length xs → Mem (getD xs i 0) xs
 mem-at [] i h = absurd (omega arith)

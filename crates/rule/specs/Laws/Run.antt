@@ -20,7 +20,7 @@ use Rattle.document.specs.Laws.Sound.{within-of}
 use Rattle.data.specs.declared.Wire.{Wire}
 use Rattle.data.specs.declared.Shape.{Shape}
 use Rattle.data.specs.declared.Step.{Step}
-use Rattle.step.specs.Passes.{wired}
+use Rattle.marks.specs.Passes.{wired}
 use Rattle.rule.specs.declared.Run.{Run}
 use Rattle.rule.specs.Run.{noted, after, goneOn, runBegun, runOf, neededBy}
 

@@ -6,9 +6,9 @@ use Prim.Native.Nat.{ℕ, _+_, _-_, _≤_, _<_}
 use native.Mathlib.Omega.{arith}
 use borrow.Author.Needs.{needs}
 use lib.ListN.{length, drop, length-set}
-use Rattle.records.specs.Laws.Counts.{counts-none, counts-more, counts-room}
-use Rattle.records.specs.Records.{recordAt, countsOf, withRecord}
-use Rattle.records.specs.declared.Counts.{Counts}
+use Rattle.counts.specs.Laws.Counts.{counts-none, counts-more, counts-room}
+use Rattle.counts.specs.Counting.{recordAt, countsOf, withRecord}
+use Rattle.counts.specs.declared.Counts.{Counts}
 use Rattle.runner.specs.Run.{values}
 use Rattle.runner.specs.Laws.Values.{values-none, values-turn}
 use Rattle.runner.proofs.put_values.Statement.{statement}

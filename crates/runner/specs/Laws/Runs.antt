@@ -16,11 +16,12 @@ use Rattle.data.specs.declared.Outcome.the-variants.{Done}
 use Rattle.data.specs.declared.Refusal.the-variants.{Records, Bits, Buffer}
 use Rattle.data.specs.declared.Shape.{Shape}
 use Rattle.data.specs.declared.Wire.{Wire}
-use Rattle.records.specs.declared.Counts.{Counts}
-use Rattle.records.specs.Records.{countsOf}
-use Rattle.records.specs.Laws.Counts.{rands-is, pubs-is}
+use Rattle.counts.specs.declared.Counts.{Counts}
+use Rattle.counts.specs.Counting.{countsOf}
+use Rattle.counts.specs.Laws.Counts.{rands-is, pubs-is}
 use Rattle.records.specs.Laws.Fitting.{long-of}
-use Rattle.runner.specs.Run.{ranNot, values, wordsFit}
+use Rattle.values.specs.Words.{wordsFit}
+use Rattle.runner.specs.Run.{ranNot, values}
 use Rattle.runner.specs.Laws.Values.{values-all}
 
 module _ (σ : Shape) (ws : List Wire) (shares randoms publics : ℕ) (b : List ℕ) where

@@ -10,9 +10,9 @@ use Rattle.document.specs.Routine.{Routine, randsBefore, pubsBefore, routineOf}
 use Rattle.document.specs.Running.{bit, valueAt, firstValues, running, bits, bitValues}
 use Rattle.data.specs.declared.Shape.{Shape}
 use Rattle.data.specs.declared.Wire.{Wire}
-use Rattle.records.specs.declared.Counts.{Counts}
-use Rattle.records.specs.Records.{recordAt, countsOf}
-use Rattle.records.specs.Laws.Counts.{wire-is, rands-is, pubs-is}
+use Rattle.counts.specs.declared.Counts.{Counts}
+use Rattle.counts.specs.Counting.{recordAt, countsOf}
+use Rattle.counts.specs.Laws.Counts.{wire-is, rands-is, pubs-is}
 use Rattle.runner.specs.Run.{valueFrom, values, unsized}
 
 module _ (R : Routine) (xs ys zs : List ℕ) where

@@ -6,7 +6,7 @@ use borrow.Author.Needs.{needs}
 use Rattle.document.specs.Padding.{lowestPad, padsBy}
 use Rattle.step.specs.Next.{stepIn}
 use Rattle.step.specs.Laws.Next.{pad-at-is, lowest-found, lowest-on, lowest-end}
-use Rattle.step.specs.Passes.{wired}
+use Rattle.marks.specs.Passes.{wired}
 use Rattle.step.proofs.lowest_pad.Statement.{statement}
 use Rattle.step.proofs.lowest_pad.Tie as tie
 

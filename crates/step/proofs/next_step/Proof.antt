@@ -5,7 +5,7 @@ use mathlib.Core.Path.{ap, _∙_}
 use borrow.Author.Needs.{needs}
 use Rattle.document.specs.Padding.{lowestPad, padsBy}
 use Rattle.step.specs.Laws.Next.{next-is}
-use Rattle.step.specs.Passes.{wired}
+use Rattle.marks.specs.Passes.{wired}
 use Rattle.step.proofs.next_step.Statement.{statement}
 use Rattle.step.proofs.next_step.Tie as tie
 

@@ -20,11 +20,11 @@ use Rattle.data.specs.declared.Kind.{Kind}
 use Rattle.data.specs.declared.Kind.the-variants.{Share, Rand, Pub, Xor, And, Not}
 use Rattle.data.specs.declared.Wire.{Wire}
 use Rattle.data.specs.declared.Step.{Step}
-use Rattle.records.specs.Records.{recordAt}
-use Rattle.records.specs.Laws.Counts.{wire-is}
-use Rattle.step.specs.Passes.{onlyWires, wired, Wired}
-use Rattle.step.specs.Consumers.{Consumers}
-use Rattle.step.specs.Laws.Consumers.{counts-all, only-counted}
+use Rattle.counts.specs.Counting.{recordAt}
+use Rattle.counts.specs.Laws.Counts.{wire-is}
+use Rattle.marks.specs.Passes.{onlyWires, wired, Wired}
+use Rattle.consumers.specs.Consumers.{Consumers}
+use Rattle.consumers.specs.Laws.Consumers.{counts-all, only-counted}
 use Rattle.step.specs.Next.{servesBy, isXor}
 
 -- the first step found, or else the other

@@ -3,7 +3,8 @@ use native.Mathlib.Omega.{arith}
 use mathlib.Core.Path.{sym, _∙_, ap}
 use borrow.Author.Tests.{not-true, not-false}
 use Rattle.document.specs.Reading.{taken}
-use Rattle.taking.proofs.LineLaws.{next-is, operands-below, room-is, make-not-next, make-not-earlier, make-no-room, make-done}
+use Rattle.state.proofs.Laws.{room-is}
+use Rattle.taking.proofs.LineLaws.{next-is, operands-below, make-not-next, make-not-earlier, make-no-room, make-done}
 use borrow.Author.Needs.{needs}
 use Rattle.taking.proofs.make_wire.Statement.{statement}
 use Rattle.taking.proofs.make_wire.Tie as tie

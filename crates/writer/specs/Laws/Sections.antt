@@ -11,7 +11,7 @@ use Rattle.document.specs.Lines.{decimal, spelled}
 use Rattle.data.specs.declared.Shape.{Shape}
 use Rattle.data.specs.declared.Wire.{Wire}
 use Rattle.data.specs.declared.Word.the-variants as W
-use Rattle.records.specs.Records.{recordAt}
+use Rattle.counts.specs.Counting.{recordAt}
 use Rattle.pieces.specs.Pieces.{piece}
 use Rattle.pieces.specs.Laws.Lengths.{line2-long}
 use Rattle.pieces.specs.declared.Part.{Part}

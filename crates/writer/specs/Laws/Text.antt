@@ -11,8 +11,8 @@ use Rattle.data.specs.declared.Line.{Line}
 use Rattle.data.specs.declared.Shape.{Shape}
 use Rattle.data.specs.declared.Wire.{Wire}
 use Rattle.data.specs.declared.Word.the-variants as W
-use Rattle.records.specs.Records.{recordAt}
-use Rattle.records.specs.Laws.Counts.{wire-is}
+use Rattle.counts.specs.Counting.{recordAt}
+use Rattle.counts.specs.Laws.Counts.{wire-is}
 use Rattle.records.specs.Records.{Fit}
 use Rattle.records.specs.Laws.Fitting.{kind-share}
 use Rattle.pieces.specs.Pieces.{ofMark, piece}

@@ -1,0 +1,3 @@
+-- The laws of the lines of the orders, and how long they can be.
+pub mod Orders
+pub mod Rooms

@@ -1,0 +1,3 @@
+-- The lines of the orders in the order of the code, and their laws.
+pub mod Orders
+pub mod Laws

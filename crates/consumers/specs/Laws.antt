@@ -1,0 +1,2 @@
+-- The laws of the counts of consumers.
+pub mod Consumers

@@ -1,0 +1,2 @@
+-- The counts record by record, and those of a routine.
+pub mod Counts

@@ -1,0 +1,3 @@
+-- The record of a wire, the counts over the first records, and their laws.
+pub mod Counting
+pub mod Laws

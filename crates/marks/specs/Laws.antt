@@ -1,0 +1,2 @@
+-- The laws of the passes.
+pub mod Passes

@@ -1,0 +1,2 @@
+-- The laws of a whole set.
+pub mod Leaf

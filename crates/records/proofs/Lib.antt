@@ -1,2 +1,0 @@
--- What more than one proof of this crate leans on.
-pub mod Laws

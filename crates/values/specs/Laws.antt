@@ -1,0 +1,2 @@
+-- The laws of the bits of a word.
+pub mod Bits
