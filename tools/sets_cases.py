@@ -70,8 +70,10 @@ ROUTINES = [
     ["routine 1 8", "rand 8", "xor 9 0 8"],
     # sixty-four shares: words are full
     ["routine 8 8", "xor 64 0 8", "rand 65", "xor 66 64 65"],
+    sec_mult(2),
     sec_mult(3),
     sec_mult(4),
+    sec_mult(5),
     refresh_m(3),
     refresh_m(4),
     refresh_m(5),
@@ -117,12 +119,27 @@ def needed(s, d, wires, probed):
     return [sum(i * d + j in live for j in range(d)) for i in range(s)], sum(1 << k for k in range(s * d) if k in live)
 
 
+def reached(wires):
+    """For each wire the word of the shares that it is computed from: no run needs others."""
+    words = []
+    for w, x in enumerate(wires):
+        words.append(1 << w if x[0] == b"share" else 0)
+        for v in operands(x):
+            words[w] |= words[v]
+    return words
+
+
 def judge(s, d, wires, strong, t):
-    count = 0
-    for size in range(1, (t - 1 if strong else t) + 1):
+    count, below = 0, reached(wires)
+    for size in range(1, t + 1):
         for probed in combinations(range(len(wires)), size):
             count += 1
             bound = sum(not wires[w][3] for w in probed) if strong else t
+            word = 0
+            for w in probed:
+                word |= below[w]
+            if all((word >> i * d & (1 << d) - 1).bit_count() <= bound for i in range(s)):
+                continue
             if max(needed(s, d, wires, probed)[0]) > bound:
                 return f"open {count} " + " ".join(map(str, probed))
     return f"pass {count}"

@@ -26,7 +26,7 @@ fn say_number(n: u64) {
     io::print_decimal(1, n);
 }
 
-fn say_kind(t: [u64; 64], word: &[u8], kind: usize) {
+fn say_kind(t: [u64; 104], word: &[u8], kind: usize) {
     say(word);
     say(b": compared");
     say_number(tally::at(t, kind));
@@ -35,14 +35,14 @@ fn say_kind(t: [u64; 64], word: &[u8], kind: usize) {
     say(b"\n");
 }
 
-fn say_count(t: [u64; 64], word: &[u8], at: usize) {
+fn say_count(t: [u64; 104], word: &[u8], at: usize) {
     say(word);
     say_number(tally::at(t, at));
     say(b"\n");
 }
 
 // How often each refusal was given, from 1 to 15.
-fn say_refusals(t: [u64; 64]) {
+fn say_refusals(t: [u64; 104]) {
     say(b"refusals 1 to 15:");
     let mut k = 1;
     while k < 16 {
@@ -62,7 +62,7 @@ fn say_routines() {
     say(b"\n");
 }
 
-fn say_texts(t: [u64; 64]) {
+fn say_texts(t: [u64; 104]) {
     say_kind(t, b"texts read", tally::TEXTS);
     say_kind(t, b"damaged texts read", tally::DAMAGED);
     say_kind(t, b"routines written", tally::WRITINGS);
@@ -70,7 +70,7 @@ fn say_texts(t: [u64; 64]) {
     say_kind(t, b"lists of records tested", tally::RECORDS);
 }
 
-fn say_sets(t: [u64; 64]) {
+fn say_sets(t: [u64; 104]) {
     say_kind(t, b"additions to a set", tally::ADDITIONS);
     say_kind(t, b"sets, needed shares", tally::NEEDED);
     say_kind(t, b"sets, steps", tally::STEPS);
@@ -78,26 +78,34 @@ fn say_sets(t: [u64; 64]) {
     say_kind(t, b"strong judgements", tally::STRONG);
 }
 
-fn say_list_texts(t: [u64; 64]) {
+fn say_list_texts(t: [u64; 104]) {
     say_kind(t, b"texts read into a lent list", tally::LENT_READS);
     say_kind(t, b"texts read into too short a list", tally::LENT_SHORT);
     say_kind(t, b"routines written from a list", tally::LENT_WRITINGS);
     say_kind(t, b"routines run from a list", tally::LENT_RUNS);
 }
 
-fn say_list_sets(t: [u64; 64]) {
+fn say_list_sets(t: [u64; 104]) {
     say_kind(t, b"sets of a list, needed shares", tally::LENT_NEEDED);
     say_kind(t, b"sets of a list, steps", tally::LENT_STEPS);
     say_kind(t, b"plain judgements of a list", tally::LENT_PLAIN);
     say_kind(t, b"strong judgements of a list", tally::LENT_STRONG);
 }
 
-fn say_orders(t: [u64; 64]) {
+fn say_orders(t: [u64; 104]) {
     say_kind(t, b"sets of a plain pass, starts counted", tally::EVEN);
+    say_kind(t, b"sets of a strong pass, drawings counted", tally::DRAWN);
+    say_kind(t, b"sets, drawings counted", tally::NEEDED_DRAWN);
     say_kind(t, b"orders above a plain judgement", tally::LOWER);
+    say_kind(t, b"orders above a strong judgement", tally::LOWER_STRONG);
+    say_kind(
+        t,
+        b"orders of a strong judgement, plain",
+        tally::STRONG_PLAIN,
+    );
 }
 
-fn say_answers(t: [u64; 64]) {
+fn say_answers(t: [u64; 104]) {
     say_count(t, b"plain judgements that pass:", tally::PLAIN_PASS);
     say_count(t, b"plain judgements that are open:", tally::PLAIN_OPEN);
     say_count(t, b"strong judgements that pass:", tally::STRONG_PASS);
@@ -107,7 +115,7 @@ fn say_answers(t: [u64; 64]) {
     say_count(t, b"steps made:", tally::STEPS_MADE);
 }
 
-fn say_all(t: [u64; 64]) {
+fn say_all(t: [u64; 104]) {
     say_routines();
     say_texts(t);
     say_sets(t);
@@ -119,7 +127,7 @@ fn say_all(t: [u64; 64]) {
 }
 
 // The routine's text, if the answers differ in more than before it.
-fn show(t: [u64; 64], u: [u64; 64], g: Listing) {
+fn show(t: [u64; 104], u: [u64; 104], g: Listing) {
     if tally::differences(t) == tally::differences(u) {
         return;
     }
@@ -132,7 +140,7 @@ fn show(t: [u64; 64], u: [u64; 64], g: Listing) {
 // ---- the routines
 
 // Every call but the judgements, on the routine and on what a spoiling makes of it.
-fn compare_calls(t: [u64; 64], g: Listing, seed: u64, sets: u64) -> [u64; 64] {
+fn compare_calls(t: [u64; 104], g: Listing, seed: u64, sets: u64) -> [u64; 104] {
     let t1 = texts::compare_reading(t, g, chance::draw(seed, 1));
     let t2 = texts::compare_writing(t1, g, chance::draw(seed, 2));
     let t3 = texts::compare_running(t2, g, chance::draw(seed, 3));
@@ -142,7 +150,7 @@ fn compare_calls(t: [u64; 64], g: Listing, seed: u64, sets: u64) -> [u64; 64] {
     compare_spoiled(t6, g, chance::draw(seed, 6))
 }
 
-fn compare_spoiled(t: [u64; 64], g: Listing, seed: u64) -> [u64; 64] {
+fn compare_spoiled(t: [u64; 104], g: Listing, seed: u64) -> [u64; 104] {
     let h = spoiling::spoiled(g, seed);
     let t0 = texts::compare_text(t, h);
     let t1 = texts::compare_records(t0, h);
@@ -152,15 +160,16 @@ fn compare_spoiled(t: [u64; 64], g: Listing, seed: u64) -> [u64; 64] {
     sets::compare_sets(t4, h, seed, 1)
 }
 
-fn compare_small(t: [u64; 64], seed: u64) -> [u64; 64] {
+fn compare_small(t: [u64; 104], seed: u64) -> [u64; 104] {
     let g = making::routine(chance::draw(seed, 8));
     let u = compare_calls(t, g, seed, 10);
     let v = judged::compare_orders(u, g, seed);
-    show(t, v, g);
-    v
+    let w = sets::compare_draws(v, g, chance::draw(seed, 11), 20);
+    show(t, w, g);
+    w
 }
 
-fn compare_all_small(t: [u64; 64]) -> [u64; 64] {
+fn compare_all_small(t: [u64; 104]) -> [u64; 104] {
     let mut u = t;
     let mut k: u64 = 0;
     while k < ROUTINES {
@@ -172,7 +181,7 @@ fn compare_all_small(t: [u64; 64]) -> [u64; 64] {
 }
 
 // Routines up to the ceilings are judged at order 1 only; order 5 is refused also where D is above it.
-fn compare_large(t: [u64; 64], seed: u64) -> [u64; 64] {
+fn compare_large(t: [u64; 104], seed: u64) -> [u64; 104] {
     let g = making::large(chance::draw(seed, 9));
     let u = compare_calls(t, g, seed, 4);
     let v = judged::compare_order(u, spoiling::spoiled(g, seed), 1);
@@ -181,7 +190,7 @@ fn compare_large(t: [u64; 64], seed: u64) -> [u64; 64] {
     w
 }
 
-fn compare_crowded(t: [u64; 64], seed: u64) -> [u64; 64] {
+fn compare_crowded(t: [u64; 104], seed: u64) -> [u64; 104] {
     let g = making::crowded(chance::draw(seed, 10));
     let u = compare_calls(t, g, seed, 2);
     let v = texts::compare_next(u, g);
@@ -189,7 +198,7 @@ fn compare_crowded(t: [u64; 64], seed: u64) -> [u64; 64] {
     v
 }
 
-fn compare_all_large(t: [u64; 64]) -> [u64; 64] {
+fn compare_all_large(t: [u64; 104]) -> [u64; 104] {
     let mut u = t;
     let mut k: u64 = 0;
     while k < LARGE {

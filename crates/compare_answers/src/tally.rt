@@ -41,25 +41,33 @@ pub const LENT_PLAIN: usize = 18;
 
 pub const LENT_STRONG: usize = 19;
 
-// Places 0 to 19: how many of a kind were compared. 20 to 39: how many of it differ. From 40 on: how often each refusal was given
-// (40: none). From 57 on: answers of each sort, where "not open" stands before "open".
-pub const DIFFER: usize = 20;
+pub const DRAWN: usize = 20;
 
-pub const REFUSED: usize = 40;
+pub const LOWER_STRONG: usize = 21;
 
-pub const PLAIN_PASS: usize = 57;
+pub const STRONG_PLAIN: usize = 22;
 
-pub const PLAIN_OPEN: usize = 58;
+pub const NEEDED_DRAWN: usize = 23;
 
-pub const SETS_CLOSED: usize = 59;
+// Places 0 to 31: how many of a kind were compared. 32 to 63: how many of it differ. From 64 on: how often each refusal was given
+// (64: none). From 96 on: answers of each sort, where "not open" stands before "open".
+pub const DIFFER: usize = 32;
 
-pub const SETS_OPEN: usize = 60;
+pub const REFUSED: usize = 64;
 
-pub const STEPS_MADE: usize = 61;
+pub const PLAIN_PASS: usize = 96;
 
-pub const STRONG_PASS: usize = 62;
+pub const PLAIN_OPEN: usize = 97;
 
-pub const STRONG_OPEN: usize = 63;
+pub const SETS_CLOSED: usize = 98;
+
+pub const SETS_OPEN: usize = 99;
+
+pub const STEPS_MADE: usize = 100;
+
+pub const STRONG_PASS: usize = 101;
+
+pub const STRONG_OPEN: usize = 102;
 
 // Where a judgement is counted: on values, over a list, and its passes.
 pub struct Places {
@@ -83,27 +91,27 @@ pub fn places_of(which: Which) -> Places {
     }
 }
 
-pub fn none() -> [u64; 64] {
-    [0; 64]
+pub fn none() -> [u64; 104] {
+    [0; 104]
 }
 
-pub fn at(t: [u64; 64], i: usize) -> u64 {
-    if i < 64 {
+pub fn at(t: [u64; 104], i: usize) -> u64 {
+    if i < 104 {
         return t[i];
     }
     0
 }
 
-pub fn more(t: [u64; 64], i: usize, by: u64) -> [u64; 64] {
+pub fn more(t: [u64; 104], i: usize, by: u64) -> [u64; 104] {
     let mut u = t;
-    if i < 64 {
+    if i < 104 {
         u[i] = std::num::wrapping_add_u64(u[i], by);
     }
     u
 }
 
 // One comparison of a kind, by which the answers were the same or not.
-pub fn compared(t: [u64; 64], kind: usize, same: bool) -> [u64; 64] {
+pub fn compared(t: [u64; 104], kind: usize, same: bool) -> [u64; 104] {
     let u = more(t, kind, 1);
     if same {
         return u;
@@ -111,11 +119,11 @@ pub fn compared(t: [u64; 64], kind: usize, same: bool) -> [u64; 64] {
     more(u, std::num::wrapping_add_usize(kind, DIFFER), 1)
 }
 
-pub fn refused(t: [u64; 64], number: u64) -> [u64; 64] {
+pub fn refused(t: [u64; 104], number: u64) -> [u64; 104] {
     more(t, std::num::wrapping_add_usize(REFUSED, number as usize), 1)
 }
 
-pub fn outcome(t: [u64; 64], first: usize, is_open: bool) -> [u64; 64] {
+pub fn outcome(t: [u64; 104], first: usize, is_open: bool) -> [u64; 104] {
     if is_open {
         return more(t, std::num::wrapping_add_usize(first, 1), 1);
     }
@@ -123,7 +131,7 @@ pub fn outcome(t: [u64; 64], first: usize, is_open: bool) -> [u64; 64] {
 }
 
 // How many answers differ in all.
-pub fn differences(t: [u64; 64]) -> u64 {
+pub fn differences(t: [u64; 104]) -> u64 {
     let mut sum = 0;
     let mut k = DIFFER;
     while k < REFUSED {

@@ -33,7 +33,7 @@ fn same_list(list: [Wire; 130], own: splitting::Text) -> bool {
     true
 }
 
-fn compare_long(t: [u64; 64], text: &[u8], own: splitting::Text) -> [u64; 64] {
+fn compare_long(t: [u64; 104], text: &[u8], own: splitting::Text) -> [u64; 104] {
     let r = compare_lists::read(text, [lending::content(); 130]);
     let f = r.answer;
     let list = r.list;
@@ -54,7 +54,7 @@ fn is_kept(list: [Wire; 127]) -> bool {
 }
 
 // 10 before all else, whatever the text is, and the list as it came.
-fn compare_short(t: [u64; 64], text: &[u8]) -> [u64; 64] {
+fn compare_short(t: [u64; 104], text: &[u8]) -> [u64; 104] {
     let r = compare_lists::read_short(text, [lending::content(); 127]);
     let f = r.answer;
     let list = r.list;
@@ -65,7 +65,7 @@ fn compare_short(t: [u64; 64], text: &[u8]) -> [u64; 64] {
     tally::refused(tally::compared(t, tally::LENT_SHORT, same), 10)
 }
 
-pub fn compare_read(t: [u64; 64], text: &[u8], own: splitting::Text) -> [u64; 64] {
+pub fn compare_read(t: [u64; 104], text: &[u8], own: splitting::Text) -> [u64; 104] {
     let u = compare_long(t, text, own);
     compare_short(u, text)
 }

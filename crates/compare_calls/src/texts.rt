@@ -17,7 +17,7 @@ use data::Written;
 
 // ---- reading
 
-fn compare_whole(t: [u64; 64], kind: usize, text: &[u8]) -> [u64; 64] {
+fn compare_whole(t: [u64; 104], kind: usize, text: &[u8]) -> [u64; 104] {
     let r = reader::read(text);
     let own = splitting::read(text);
     let u = tally::compared(t, kind, same::same_read(r, own));
@@ -26,14 +26,14 @@ fn compare_whole(t: [u64; 64], kind: usize, text: &[u8]) -> [u64; 64] {
 }
 
 // The first `len` bytes.
-fn compare_read(t: [u64; 64], kind: usize, text: &[u8], len: usize) -> [u64; 64] {
+fn compare_read(t: [u64; 104], kind: usize, text: &[u8], len: usize) -> [u64; 104] {
     if len <= text.len() {
         return compare_whole(t, kind, &text[..len]);
     }
     compare_whole(t, kind, text)
 }
 
-fn compare_damaged(t: [u64; 64], text: &[u8], len: usize, seed: u64) -> [u64; 64] {
+fn compare_damaged(t: [u64; 104], text: &[u8], len: usize, seed: u64) -> [u64; 104] {
     let mut one = [0u8; 4200];
     let k = damaging::damaged(text, len, seed, &mut one);
     let u = compare_read(t, tally::DAMAGED, &one, k);
@@ -45,7 +45,7 @@ fn compare_damaged(t: [u64; 64], text: &[u8], len: usize, seed: u64) -> [u64; 64
     u
 }
 
-pub fn compare_reading(t: [u64; 64], g: Listing, seed: u64) -> [u64; 64] {
+pub fn compare_reading(t: [u64; 104], g: Listing, seed: u64) -> [u64; 104] {
     let mut text = [0u8; 4200];
     let len = spelling::text(g, &mut text);
     let mut u = compare_read(t, tally::TEXTS, &text, len);
@@ -59,14 +59,14 @@ pub fn compare_reading(t: [u64; 64], g: Listing, seed: u64) -> [u64; 64] {
 }
 
 // The text of records that may be spoiled.
-pub fn compare_text(t: [u64; 64], g: Listing) -> [u64; 64] {
+pub fn compare_text(t: [u64; 104], g: Listing) -> [u64; 104] {
     let mut text = [0u8; 4200];
     let len = spelling::text(g, &mut text);
     compare_read(t, tally::DAMAGED, &text, len)
 }
 
 // The text with one line more: the next wire.
-pub fn compare_next(t: [u64; 64], g: Listing) -> [u64; 64] {
+pub fn compare_next(t: [u64; 104], g: Listing) -> [u64; 104] {
     let mut text = [0u8; 4200];
     let len = spelling::text(g, &mut text);
     let ws = g.wires;
@@ -84,7 +84,7 @@ fn write_first(g: Listing, listed: bool, room: usize, buf: &mut [u8]) -> Written
 }
 
 // Both buffers are compared whole, also behind the text and after a refusal.
-fn compare_written(t: [u64; 64], listed: bool, g: Listing, room: usize) -> [u64; 64] {
+fn compare_written(t: [u64; 104], listed: bool, g: Listing, room: usize) -> [u64; 104] {
     let mut x = [42u8; 4096];
     let mut y = [42u8; 4096];
     let r = write_first(g, listed, room, &mut x);
@@ -97,13 +97,13 @@ fn compare_written(t: [u64; 64], listed: bool, g: Listing, room: usize) -> [u64;
     tally::refused(tally::compared(t, tally::WRITINGS, same), own.refusal)
 }
 
-fn compare_write(t: [u64; 64], g: Listing, room: usize) -> [u64; 64] {
+fn compare_write(t: [u64; 104], g: Listing, room: usize) -> [u64; 104] {
     let u = compare_written(t, false, g, room);
     compare_written(u, true, g, room)
 }
 
 // Into so many bytes as the text has, one more or one less.
-pub fn compare_writing(t: [u64; 64], g: Listing, seed: u64) -> [u64; 64] {
+pub fn compare_writing(t: [u64; 104], g: Listing, seed: u64) -> [u64; 104] {
     let mut text = [0u8; 4096];
     let len = spelling::text(g, &mut text);
     let room = std::num::wrapping_sub_usize(
@@ -144,7 +144,7 @@ fn length_of(refusal: u64, n: usize) -> usize {
     0
 }
 
-fn compare_ran(t: [u64; 64], listed: bool, g: Listing, b: Bits, room: usize) -> [u64; 64] {
+fn compare_ran(t: [u64; 104], listed: bool, g: Listing, b: Bits, room: usize) -> [u64; 104] {
     let mut x = [42u8; 140];
     let mut y = [42u8; 140];
     let h = lending::held(g, listed);
@@ -160,7 +160,7 @@ fn compare_ran(t: [u64; 64], listed: bool, g: Listing, b: Bits, room: usize) -> 
     tally::refused(tally::compared(t, tally::RUNS, same), refusal)
 }
 
-fn compare_run(t: [u64; 64], g: Listing, seed: u64, room: usize) -> [u64; 64] {
+fn compare_run(t: [u64; 104], g: Listing, seed: u64, room: usize) -> [u64; 104] {
     let Shape { s, d, n } = g.shape;
     let ws = g.wires;
     let b = Bits {
@@ -173,7 +173,7 @@ fn compare_run(t: [u64; 64], g: Listing, seed: u64, room: usize) -> [u64; 64] {
 }
 
 // Into so many bytes as there are wires, a few more, or one less.
-pub fn compare_running(t: [u64; 64], g: Listing, seed: u64) -> [u64; 64] {
+pub fn compare_running(t: [u64; 104], g: Listing, seed: u64) -> [u64; 104] {
     let more = std::num::wrapping_add_usize(g.shape.n, chance::below(seed, 46, 9));
     let room = std::num::wrapping_sub_usize(more, 1);
     if 140 < room {
@@ -184,7 +184,7 @@ pub fn compare_running(t: [u64; 64], g: Listing, seed: u64) -> [u64; 64] {
 
 // ---- records
 
-pub fn compare_records(t: [u64; 64], g: Listing) -> [u64; 64] {
+pub fn compare_records(t: [u64; 104], g: Listing) -> [u64; 104] {
     let fit = records::records_fit(g);
     let own = spelling::could_be_read(g);
     tally::compared(t, tally::RECORDS, fit == own)

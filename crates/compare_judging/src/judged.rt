@@ -1,45 +1,55 @@
-// Whole judgements by both, and demand 3 by counting starts wherever a small routine passes.
+// Whole judgements by both, and what a pass means by counting wherever a small routine passes.
 use compare_answers::same;
 use compare_answers::tally;
 use compare_lines::wires;
 use compare_making::chance;
 use compare_making::lending;
 use compare_rules::judging;
+use compare_rules::padding;
 use compare_rules::starts;
 use compare_rules::starts::Small;
 use data::Listing;
-use data::Shape;
+use data::ProbeSet;
 use data::Which;
 
 // ---- starts
 
-// The routine, if its starts can be counted: at most 512 of them, 40 wires and two publics; else with no start.
-fn small(listing: Listing) -> Small {
-    let Shape { s, d, n } = listing.shape;
+// 9.33: how often the randoms give each pattern depends on no more shares of a secret than the set has inner wires.
+fn few_depend(r: Small, set: ProbeSet, ones: &[u64; 512]) -> bool {
+    let listing = r.listing;
     let ws = listing.wires;
-    let total = wires::shares(s, d);
-    let bits = std::num::wrapping_add_usize(total, wires::count_kind(n, ws, wires::RAND));
-    let pubs = wires::count_kind(n, ws, wires::PUB);
-    let mut starts = 0;
-    if (bits < 10) & (pubs < 3) & (n <= 40) {
-        starts = 1 << (bits % 10);
-    }
-    Small {
-        listing,
-        total,
-        starts,
+    let word = starts::dependent(r, set, ones);
+    !padding::is_over(r.total, listing.shape.d, word, judging::inner(ws, set))
+}
+
+// What a pass says of one set.
+fn observe_set(
+    t: [u64; 104],
+    r: Small,
+    which: Which,
+    set: ProbeSet,
+    ones: &[u64; 512],
+    chosen: &[u64; 512],
+) -> [u64; 104] {
+    match which {
+        Which::Plain => {
+            let even = starts::is_even(r.listing.shape.s, set, ones, chosen);
+            tally::compared(t, tally::EVEN, even)
+        }
+        Which::Strong => tally::compared(t, tally::DRAWN, few_depend(r, set, ones)),
     }
 }
 
 // Every set of a size is observed.
 fn observe_size(
-    t: [u64; 64],
-    s: usize,
-    n: usize,
+    t: [u64; 104],
+    r: Small,
+    which: Which,
     size: usize,
     ones: &[u64; 512],
     chosen: &[u64; 512],
-) -> [u64; 64] {
+) -> [u64; 104] {
+    let n = r.listing.shape.n;
     if n < size {
         return t;
     }
@@ -47,7 +57,7 @@ fn observe_size(
     let mut u = t;
     let mut k: u64 = 0;
     while k < 1000000 {
-        let v = tally::compared(u, tally::EVEN, starts::is_even(s, set, ones, chosen));
+        let v = observe_set(u, r, which, set, ones, chosen);
         u = v;
         let from = judging::rising(set, n);
         if from == 4 {
@@ -60,31 +70,33 @@ fn observe_size(
     u
 }
 
-// The empty set first: each choice of the secrets has as many starts as another.
-fn observe_sizes(t: [u64; 64], r: Small, publics: u64, top: usize) -> [u64; 64] {
+// The empty set first: of a plain pass, that each choice of the secrets has as many starts as another.
+fn observe_sizes(t: [u64; 104], r: Small, which: Which, publics: u64, top: usize) -> [u64; 104] {
     let mut ones = [0u64; 512];
     let mut chosen = [0u64; 512];
     starts::all_starts(r, publics, &mut ones, &mut chosen);
-    let s = r.listing.shape.s;
-    let n = r.listing.shape.n;
-    let mut u = tally::compared(
-        t,
-        tally::EVEN,
-        starts::is_even(s, judging::nothing(), &ones, &chosen),
-    );
+    let mut u = observe_set(t, r, which, judging::nothing(), &ones, &chosen);
     let mut size = 0;
     while size < top {
         size += 1;
-        let next = observe_size(u, s, n, size, &ones, &chosen);
+        let next = observe_size(u, r, which, size, &ones, &chosen);
         u = next;
     }
     u
 }
 
-// With the public bits fixed at each of their values.
-fn observe(t: [u64; 64], g: Listing, order: usize) -> [u64; 64] {
-    let r = small(g);
-    if r.starts == 0 {
+// Up to how many starts a routine's sets are observed.
+fn most_starts(which: Which) -> usize {
+    match which {
+        Which::Plain => 512,
+        Which::Strong => 256,
+    }
+}
+
+// A pass is held to what it means, with the public bits fixed at each of their values.
+fn observe(t: [u64; 104], g: Listing, which: Which, order: usize) -> [u64; 104] {
+    let r = starts::starts_of(g);
+    if (r.starts == 0) | (most_starts(which) < r.starts) {
         return t;
     }
     let ws = g.wires;
@@ -93,7 +105,7 @@ fn observe(t: [u64; 64], g: Listing, order: usize) -> [u64; 64] {
     let mut u = t;
     let mut publics: u64 = 0;
     while publics < values {
-        let next = observe_sizes(u, r, publics, order);
+        let next = observe_sizes(u, r, which, publics, order);
         u = next;
         publics += 1;
     }
@@ -101,17 +113,6 @@ fn observe(t: [u64; 64], g: Listing, order: usize) -> [u64; 64] {
 }
 
 // ---- judgements
-
-// A plain pass is held to demand 3.
-fn observe_pass(t: [u64; 64], g: Listing, which: Which, order: usize, is_open: bool) -> [u64; 64] {
-    if is_open {
-        return t;
-    }
-    match which {
-        Which::Plain => observe(t, g, order),
-        Which::Strong => t,
-    }
-}
 
 // The other answer of the routine with all its records, or that of a list that does not hold it.
 fn listed_judgement(
@@ -128,12 +129,12 @@ fn listed_judgement(
 
 // Over a lent list.
 fn compare_listed(
-    t: [u64; 64],
+    t: [u64; 104],
     g: Listing,
     which: Which,
     order: usize,
     all: judging::Judgement,
-) -> [u64; 64] {
+) -> [u64; 104] {
     let shape = g.shape;
     let ws = g.wires;
     let own = listed_judgement(g, which, order, all);
@@ -142,7 +143,7 @@ fn compare_listed(
     tally::compared(t, places.list, same::same_judged(r, own))
 }
 
-fn compare_judgement(t: [u64; 64], g: Listing, which: Which, order: usize) -> [u64; 64] {
+fn compare_judgement(t: [u64; 104], g: Listing, which: Which, order: usize) -> [u64; 104] {
     let places = tally::places_of(which);
     let r = judge::judge(g, which, order);
     let own = judging::judge(g, which, order);
@@ -153,39 +154,68 @@ fn compare_judgement(t: [u64; 64], g: Listing, which: Which, order: usize) -> [u
         return v;
     }
     let w = tally::outcome(v, places.pass, own.hit);
-    observe_pass(w, g, which, order, own.hit)
+    if own.hit {
+        return w;
+    }
+    observe(w, g, which, order)
 }
 
-pub fn compare_order(t: [u64; 64], g: Listing, order: usize) -> [u64; 64] {
+// Which judgements are open, at an order or at some order below it.
+struct Opened {
+    plain: bool,
+    strong: bool,
+}
+
+// Those of the last order, by what is counted before and after it.
+fn newly_open(t: [u64; 104], u: [u64; 104]) -> Opened {
+    Opened {
+        plain: tally::at(t, tally::PLAIN_OPEN) != tally::at(u, tally::PLAIN_OPEN),
+        strong: tally::at(t, tally::STRONG_OPEN) != tally::at(u, tally::STRONG_OPEN),
+    }
+}
+
+fn either_open(a: Opened, b: Opened) -> Opened {
+    Opened {
+        plain: a.plain | b.plain,
+        strong: a.strong | b.strong,
+    }
+}
+
+pub fn compare_order(t: [u64; 104], g: Listing, order: usize) -> [u64; 104] {
     let u = compare_judgement(t, g, Which::Plain, order);
     compare_judgement(u, g, Which::Strong, order)
 }
 
-// Demand 3: an order that passes has no lower one that is open.
-fn compare_lower(t: [u64; 64], opened: bool, is_open: bool) -> [u64; 64] {
-    tally::compared(t, tally::LOWER, is_open | !opened)
+// 9.13, 9.32: an order that passes has no lower one that is open. 9.31: nor is the plain judgement where the strong one passes.
+fn compare_passes(t: [u64; 104], opened: Opened, is_open: Opened) -> [u64; 104] {
+    let u = tally::compared(t, tally::LOWER, is_open.plain | !opened.plain);
+    let v = tally::compared(u, tally::LOWER_STRONG, is_open.strong | !opened.strong);
+    tally::compared(v, tally::STRONG_PLAIN, is_open.strong | !is_open.plain)
 }
 
 // Every order that is judged, from 1 to the lower of 4 and D - 1.
-fn compare_judged(t: [u64; 64], g: Listing) -> [u64; 64] {
+fn compare_judged(t: [u64; 104], g: Listing) -> [u64; 104] {
     let end = data::lower(5, g.shape.d);
     let mut u = t;
-    let mut opened = false;
+    let mut opened = Opened {
+        plain: false,
+        strong: false,
+    };
     let mut order = 1;
     while order < end {
-        let before = tally::at(u, tally::PLAIN_OPEN);
         let v = compare_order(u, g, order);
-        let is_open = tally::at(v, tally::PLAIN_OPEN) != before;
-        let next = compare_lower(v, opened, is_open);
+        let is_open = newly_open(u, v);
+        let next = compare_passes(v, opened, is_open);
         u = next;
-        opened = opened | is_open;
+        let either = either_open(opened, is_open);
+        opened = either;
         order += 1;
     }
     u
 }
 
 // Order 0, order 5 and one at D or above are refused.
-pub fn compare_orders(t: [u64; 64], g: Listing, seed: u64) -> [u64; 64] {
+pub fn compare_orders(t: [u64; 104], g: Listing, seed: u64) -> [u64; 104] {
     let u = compare_order(t, g, 0);
     let v = compare_order(u, g, 5);
     let above = std::num::wrapping_add_usize(g.shape.d, chance::below(seed, 90, 3));

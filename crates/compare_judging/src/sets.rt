@@ -1,4 +1,4 @@
-// Additions to probe sets, the needed shares and the steps of one set, each by both.
+// Additions to probe sets, the needed shares and the steps of one set, each by both; and what needed shares mean, by counting.
 use compare_answers::same;
 use compare_answers::tally;
 use compare_lines::wires;
@@ -7,6 +7,8 @@ use compare_making::lending;
 use compare_rules::adding;
 use compare_rules::judging;
 use compare_rules::padding;
+use compare_rules::starts;
+use compare_rules::starts::Small;
 use data::Listing;
 use data::ProbeSet;
 
@@ -57,13 +59,13 @@ fn set_drawn(seed: u64, n: usize, size: usize) -> ProbeSet {
 
 // ---- additions
 
-fn compare_addition(t: [u64; 64], set: ProbeSet, w: usize) -> [u64; 64] {
+fn compare_addition(t: [u64; 104], set: ProbeSet, w: usize) -> [u64; 104] {
     let r = set.add(w);
     let a = adding::add(set, w);
     tally::compared(t, tally::ADDITIONS, same::same_addition(r, a))
 }
 
-pub fn compare_additions(t: [u64; 64], seed: u64) -> [u64; 64] {
+pub fn compare_additions(t: [u64; 104], seed: u64) -> [u64; 104] {
     let n = std::num::wrapping_add_usize(chance::below(seed, 77, 128), 1);
     let set = set_drawn(seed, n, 4);
     let w = chance::below(seed, 78, 132);
@@ -105,12 +107,12 @@ fn listed_answer(g: Listing, order: usize, set: ProbeSet, own: padding::Answer) 
 
 // Over a lent list.
 fn compare_listed(
-    t: [u64; 64],
+    t: [u64; 104],
     g: Listing,
     order: usize,
     set: ProbeSet,
     all: padding::Answer,
-) -> [u64; 64] {
+) -> [u64; 104] {
     let shape = g.shape;
     let ws = g.wires;
     let list = lending::few(ws);
@@ -121,7 +123,7 @@ fn compare_listed(
     tally::compared(u, tally::LENT_STEPS, same::same_padded(p, own))
 }
 
-fn compare_set(t: [u64; 64], g: Listing, order: usize, set: ProbeSet) -> [u64; 64] {
+fn compare_set(t: [u64; 104], g: Listing, order: usize, set: ProbeSet) -> [u64; 104] {
     let own = padding::judge_set(g, order, set);
     let r = rule::needs(g, order, set);
     let p = rule::pads(g, order, set);
@@ -137,7 +139,7 @@ fn compare_set(t: [u64; 64], g: Listing, order: usize, set: ProbeSet) -> [u64; 6
     tally::more(x, tally::STEPS_MADE, steps as u64)
 }
 
-pub fn compare_sets(t: [u64; 64], g: Listing, seed: u64, count: u64) -> [u64; 64] {
+pub fn compare_sets(t: [u64; 104], g: Listing, seed: u64, count: u64) -> [u64; 104] {
     let mut u = t;
     let mut k: u64 = 0;
     while k < count {
@@ -149,4 +151,54 @@ pub fn compare_sets(t: [u64; 64], g: Listing, seed: u64, count: u64) -> [u64; 64
         k += 1;
     }
     u
+}
+
+// ---- drawings
+
+// 9.29: how often the randoms give each pattern of the set depends on needed shares alone.
+fn compare_drawn(
+    t: [u64; 104],
+    r: Small,
+    order: usize,
+    set: ProbeSet,
+    ones: &[u64; 512],
+) -> [u64; 104] {
+    let own = padding::judge_set(r.listing, order, set);
+    if own.refusal != 0 {
+        return t;
+    }
+    let word = starts::dependent(r, set, ones);
+    tally::compared(t, tally::NEEDED_DRAWN, word | own.shares == own.shares)
+}
+
+fn compare_all_drawn(
+    t: [u64; 104],
+    r: Small,
+    seed: u64,
+    count: u64,
+    ones: &[u64; 512],
+) -> [u64; 104] {
+    let mut u = t;
+    let mut k: u64 = 0;
+    while k < count {
+        let own = chance::draw(seed, k);
+        let order = order_drawn(own, r.listing.shape.d);
+        let set = set_drawn(own, r.listing.shape.n, order);
+        let next = compare_drawn(u, r, order, set, ones);
+        u = next;
+        k += 1;
+    }
+    u
+}
+
+// Of a routine of at most 256 starts, with some public bits.
+pub fn compare_draws(t: [u64; 104], g: Listing, seed: u64, count: u64) -> [u64; 104] {
+    let r = starts::starts_of(g);
+    if (r.starts == 0) | (256 < r.starts) {
+        return t;
+    }
+    let mut ones = [0u64; 512];
+    let mut chosen = [0u64; 512];
+    starts::all_starts(r, chance::draw(seed, 91), &mut ones, &mut chosen);
+    compare_all_drawn(t, r, seed, count, &ones)
 }

@@ -70,7 +70,7 @@ pub fn risen(set: ProbeSet, from: usize) -> ProbeSet {
 }
 
 // How many wires of the set are no outputs.
-fn inner(ws: [Wire; 128], set: ProbeSet) -> usize {
+pub fn inner(ws: [Wire; 128], set: ProbeSet) -> usize {
     let places = set.places;
     let len = set.len;
     let mut count = 0;
@@ -196,10 +196,5 @@ pub fn judge(listing: Listing, which: Which, t: usize) -> Judgement {
         total,
         wires,
     };
-    if strong {
-        if 0 < t {
-            return judge_sizes(c, t - 1);
-        }
-    }
     judge_sizes(c, t)
 }

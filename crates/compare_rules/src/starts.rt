@@ -1,18 +1,40 @@
-// Demand 3 by counting: every start of a small routine is run, and for each set it is counted, under each choice of the secrets,
-// from how many starts all its wires are 1.
+// What a pass means by counting: every start of a small routine is run. For each set it is counted, under each choice of the secrets, from how
+// many starts all its wires are 1 (a plain pass); and for each share word, with how many drawings it shows each pattern (a strong one).
 use compare_lines::wires;
 use compare_texts::running;
 use data::Listing;
 use data::ProbeSet;
+use data::Shape;
 
 // The number of a wire that no small routine has, taken for one that is always 1.
 const ALWAYS: usize = 63;
 
-// A small routine, fewer than 10 bits of shares and randoms and fewer than 64 wires; how many shares and how many starts it has.
+// A small routine; how many shares, randoms and starts it has.
 pub struct Small {
     pub listing: Listing,
     pub total: usize,
+    pub randoms: usize,
     pub starts: usize,
+}
+
+// The routine, if its starts can be counted: at most 512 of them, 40 wires and two publics; else with no start.
+pub fn starts_of(listing: Listing) -> Small {
+    let Shape { s, d, n } = listing.shape;
+    let ws = listing.wires;
+    let total = wires::shares(s, d);
+    let randoms = wires::count_kind(n, ws, wires::RAND);
+    let bits = std::num::wrapping_add_usize(total, randoms);
+    let pubs = wires::count_kind(n, ws, wires::PUB);
+    let mut starts = 0;
+    if (bits < 10) & (pubs < 3) & (n <= 40) {
+        starts = 1 << (bits % 10);
+    }
+    Small {
+        listing,
+        total,
+        randoms,
+        starts,
+    }
 }
 
 // The secrets of a share word: bit i is the xor of the shares of secret i.
@@ -141,4 +163,67 @@ pub fn is_even(s: usize, set: ProbeSet, ones: &[u64; 512], chosen: &[u64; 512]) 
         choice += 1;
     }
     true
+}
+
+// ---- drawings
+
+// The place of what the set shows from start x: `width` times the pattern, read as a number.
+fn place_of(set: ProbeSet, width: usize, x: usize, ones: &[u64; 512]) -> usize {
+    let mut place: usize = 0;
+    let mut i = 0;
+    while i < 4 {
+        if i < set.len {
+            let at = wire_at(set, i) % 64 * 8 + x / 64 % 8;
+            place = place % 64 * 2;
+            if wires::bit(ones[at], x % 64) {
+                place = place + width % 64;
+            }
+        }
+        i += 1;
+    }
+    place % 64
+}
+
+// For each share word, with how many of the drawings the set shows each pattern, one number beside the other in a word: a place is a bit
+// wider than the randoms are many, and as a set judged has fewer wires than a secret shares, all places fit where there are at most 256 starts.
+fn draws(r: Small, set: ProbeSet, ones: &[u64; 512]) -> [u64; 512] {
+    let width = std::num::wrapping_add_usize(r.randoms, 1);
+    let starts = r.starts;
+    let total = r.total;
+    let mut counts = [0u64; 512];
+    let mut x: usize = 0;
+    while x < starts {
+        let at = (low_bits(x as u64, total) % 512) as usize;
+        let place = place_of(set, width, x, ones);
+        counts[at] = std::num::wrapping_add_u64(counts[at], 1 << (place % 64));
+        x += 1;
+    }
+    counts
+}
+
+// Whether another value of share k changes how often the randoms give some pattern, whatever the other shares are.
+fn depends_on(counts: [u64; 512], total: usize, k: usize) -> bool {
+    let words: u64 = 1 << (total % 10);
+    let other: u64 = 1 << (k % 10);
+    let mut x: u64 = 0;
+    while x < words {
+        if counts[(x % 512) as usize] != counts[((x ^ other) % 512) as usize] {
+            return true;
+        }
+        x += 1;
+    }
+    false
+}
+
+// The word of the shares on which it depends how often the randoms give each pattern of the set.
+pub fn dependent(r: Small, set: ProbeSet, ones: &[u64; 512]) -> u64 {
+    let total = r.total;
+    let counts = draws(r, set, ones);
+    let mut word: u64 = 0;
+    let mut k = 0;
+    while k < total {
+        word = word | wires::bit_of(depends_on(counts, total, k), k);
+        k += 1;
+    }
+    word
 }

@@ -8,7 +8,7 @@ use Rattle.document.specs.Running.{bit, bitValues, whole-running}
 use Rattle.data.specs.ProbeSets.{setOf}
 use Rattle.document.specs.Padding.{steps}
 use Rattle.document.specs.Judgements.{plain, strong, passed, opened, judged, needing, whole-judgements}
-use Rattle.document.specs.Starts.{patternCount, whole-starts}
+use Rattle.document.specs.Starts.{patternCount, drawCount, whole-starts}
 use Rattle.data.specs.declared.Kind.the-variants.{Share, Rand, Pub, Xor, And, Not}
 use Rattle.data.specs.declared.Wire.{Wire}
 use Rattle.data.specs.declared.Outcome.the-variants.{Done}
@@ -151,19 +151,22 @@ no-shortcut = ((refl, refl), ((refl, refl), ((refl, refl), ((refl, refl), ((refl
 
 -- 10.2, 10.27: its four judgements
 pub lines : (judged plain exampleA 1 ≡ passed 9)
-    × (judged strong exampleA 1 ≡ passed 0)
+    × (judged strong exampleA 1 ≡ passed 9)
     × (judged plain exampleA 2 ≡ passed 45)
-    × (judged strong exampleA 2 ≡ passed 9)
+    × (judged strong exampleA 2 ≡ opened 36 (4 ∷ 5 ∷ []))
 unfolding whole-judgements
 lines = (refl, refl, refl, refl)
 
 -- ---- the strong bound
 
--- 10.28: of three shares and no other wire, each set of one wire needs just that share, and is not open; if share 0 is an output, {0} may need none
-pub bounds : (judged strong (thirds []) 2 ≡ passed 3)
+-- 10.28: of three shares and no other wire, each set needs just its own wires, and is not open; if share 0 is an output, {0} may need none
+pub bounds : (judged strong (thirds []) 2 ≡ passed 6)
     × (judged strong (record { S = 1; D = 3; wires = out (share 0 0) ∷ share 0 1 ∷ share 0 2 ∷ [] }) 2 ≡ opened 1 (0 ∷ []))
+    × (judged strong (record { S = 1; D = 2; wires = out (share 0 0) ∷ share 0 1 ∷ [] }) 1 ≡ opened 1 (0 ∷ []))
+    -- 10.8: at order 1 too a wire may need no more than itself
+    × (judged strong exampleB 1 ≡ opened 3 (2 ∷ []))
 unfolding whole-judgements
-bounds = (refl, refl)
+bounds = (refl, refl, refl, refl)
 
 -- ---- a run
 
@@ -190,3 +193,15 @@ pub counts :
     × (patternCount bit exampleA [] (3 ∷ []) (1 ∷ []) (0 ∷ []) ≡ 8)
 unfolding whole-starts
 counts = (refl, refl, refl, refl, refl)
+
+-- 10.31: in A, how often the randoms show 0, 0, of their four drawings
+pub draws :
+    -- the inner wire 4 and the output 5: no one share fixes it, since whichever is kept another changes it
+    (drawCount bit exampleA [] (4 ∷ 5 ∷ []) (0 ∷ 0 ∷ []) (0 ∷ 0 ∷ 0 ∷ []) ≡ 2)
+    × (drawCount bit exampleA [] (4 ∷ 5 ∷ []) (0 ∷ 0 ∷ []) (1 ∷ 0 ∷ 0 ∷ []) ≡ 0)
+    × (drawCount bit exampleA [] (4 ∷ 5 ∷ []) (0 ∷ 0 ∷ []) (0 ∷ 1 ∷ 0 ∷ []) ≡ 0)
+    -- the outputs 5 and 7: no share changes it
+    × (drawCount bit exampleA [] (5 ∷ 7 ∷ []) (0 ∷ 0 ∷ []) (0 ∷ 0 ∷ 0 ∷ []) ≡ 1)
+    × (drawCount bit exampleA [] (5 ∷ 7 ∷ []) (0 ∷ 0 ∷ []) (1 ∷ 1 ∷ 1 ∷ []) ≡ 1)
+unfolding whole-starts
+draws = (refl, refl, refl, refl, refl)

@@ -3,7 +3,7 @@ use mathlib.Core.Path.{_≡_}
 use mathlib.Core.Bool.{Bool, true, false, not, _&&_, cond}
 use mathlib.Core.Logic.{_⊎_}
 use mathlib.Core.List.{List, [], _∷_, _++_, map}
-use Prim.Native.Nat.{ℕ, zero, suc, _+_, _-_, _<_}
+use Prim.Native.Nat.{ℕ, zero, suc, _+_, _<_}
 use lib.Dec.{ltb, leb}
 use lib.ListN.{length, take, replicate}
 use Rattle.data.specs.Basics.{some, each, keep, Among}
@@ -38,9 +38,9 @@ plain = record { largest = λ t. t; observes = λ R ps. ps; bound = λ R t ps. t
 unfoldable pub inner : Routine → List ℕ → ℕ
 inner R ps = length (keep (λ w. not (wire R w .out)) ps)
 
--- 5.4 to 5.6: strong, sets of 1 to t − 1 wires, and the bound is i
+-- 5.4 to 5.6: strong, sets of 1 to t wires, and the bound is i
 abbrev pub strong : Judgement
-strong = record { largest = λ t. t - 1; observes = λ R ps. ps; bound = λ R t ps. inner R ps }
+strong = record { largest = λ t. t; observes = λ R ps. ps; bound = λ R t ps. inner R ps }
 
 -- 5.1: the judgement that is asked for
 abbrev pub judgementOf : Which → Judgement

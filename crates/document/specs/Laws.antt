@@ -14,9 +14,11 @@ pub mod Words
 pub mod Needed
 pub mod Sets
 pub mod Judging
+pub mod Strong
 pub mod Observing
 pub mod Starts
 pub mod Orders
+pub mod Draws
 pub mod Secrecy
 pub mod Printed
 pub mod Worth

@@ -2,10 +2,10 @@
 use mathlib.Core.Path.{_≡_}
 use mathlib.Core.Bool.{Bool, true}
 use mathlib.Core.List.{List, [], _∷_, map, flatMap}
-use Prim.Native.Nat.{ℕ, zero, suc, _+_, _*_, _<_}
+use Prim.Native.Nat.{ℕ, zero, suc, _+_, _*_, _≤_, _<_}
 use lib.Dec.{eqb, ltb}
 use lib.ListN.{length, getD}
-use Rattle.data.specs.Basics.{all, each, same, keep, upTo}
+use Rattle.data.specs.Basics.{tally, all, each, same, keep, upTo}
 use Rattle.document.specs.Routine.{Routine, size, randsBefore}
 use Rattle.document.specs.Running.{Value, running, whole-running}
 
@@ -32,10 +32,14 @@ pub record Start : Type 0 where
   pub shares : List ℕ
   pub randoms : List ℕ
 
+-- 9.27: every way to draw the randoms
+abbrev pub drawings : Value → Routine → List (List ℕ)
+drawings K R = allWords K (randsBefore R (size R))
+
 -- 9.2, 9.3: the starts of a choice of the secrets, each splitting with each way to draw the randoms
 unfoldable pub starts : Value → Routine → List ℕ → List Start
 starts K R secrets =
-    flatMap (λ x. map (λ ρ. record { shares = x; randoms = ρ }) (allWords K (randsBefore R (size R))))
+    flatMap (λ x. map (λ ρ. record { shares = x; randoms = ρ }) (drawings K R))
     (keep (splits K R secrets) (allWords K (R .S * R .D)))
 
 -- 9.4: the pattern that the wires ps show from the start
@@ -46,9 +50,14 @@ observed K R publics ps s = map (λ w. getD (running K R (s .shares) (s .randoms
 unfoldable pub patternCount : Value → Routine → List ℕ → List ℕ → List ℕ → List ℕ → ℕ
 patternCount K R publics ps pattern secrets = length (keep (λ s. same (observed K R publics ps s) pattern) (starts K R secrets))
 
+-- 9.28: with these share bits, how often the randoms give just this pattern
+unfoldable pub drawCount : Value → Routine → List ℕ → List ℕ → List ℕ → List ℕ → ℕ
+drawCount K R publics ps pattern shares =
+    length (keep (λ ρ. same (observed K R publics ps (record { shares = shares; randoms = ρ })) pattern) (drawings K R))
+
 -- the definitions above, to unfold at once where a proof computes
 unfoldable pub whole-starts : Unit {0}
-unfolding whole-running flatMap allWords xorOf splits starts observed patternCount
+unfolding whole-running flatMap allWords xorOf splits starts observed patternCount drawCount
 whole-starts = tt
 
 -- ---- words of the statements
@@ -63,3 +72,16 @@ pub record IsStart (K : Value) (R : Routine) (secrets : List ℕ) (s : Start) : 
   pub randoms-values : each (λ v. ltb v (K .many)) (s .randoms) ≡ true
   -- the D shares of each secret xor to it
   pub split : (i : ℕ) → i < R .S → xorOf K (R .D) (λ j. getD (s .shares) (i * R .D + j) 0) ≡ getD secrets i 0
+
+-- 9.29: the given shares and the public bits fix how often the randoms give each pattern, whatever the other shares are
+abbrev pub FixDraws : Value → Routine → (ℕ → Bool) → List ℕ → Type 0
+FixDraws K R given ps =
+    (publics : List ℕ) → Small (K .many) publics → (pattern shares shares′ : List ℕ) → Small (K .many) shares → Small (K .many) shares′
+    → ((w : ℕ) → w < R .S * R .D → given w ≡ true → getD shares w 0 ≡ getD shares′ w 0)
+    → drawCount K R publics ps pattern shares ≡ drawCount K R publics ps pattern shares′
+
+-- 9.30: there are at most k shares of each secret that do
+pub record FewFixDraws (K : Value) (R : Routine) (k : ℕ) (ps : List ℕ) : Type 0 where
+  pub given : ℕ → Bool
+  pub few : (i : ℕ) → i < R .S → tally (R .D) (λ j. given (i * R .D + j)) ≤ k
+  pub fix : FixDraws K R given ps

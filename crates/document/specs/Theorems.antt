@@ -6,20 +6,21 @@ use mathlib.Core.List.{List}
 use Prim.Native.Nat.{ℕ, _+_, _*_, _-_, _^_, _≤_, _<_}
 use native.Mathlib.Omega.{arith}
 use lib.ListN.{length, take}
-use Rattle.data.specs.Basics.{at, elem, Among, Once}
+use lib.Dec.{ltb}
+use Rattle.data.specs.Basics.{at, elem, each, Among, Once}
 use Rattle.document.specs.Routine.{Routine, size, randsBefore, wellFormed, routineOf, recordsFit}
 use Rattle.document.specs.Reading.{reading, routineIn}
 use Rattle.document.specs.Running.{bit}
 use Rattle.data.specs.ProbeSets.{setOf, WireSet}
 use Rattle.document.specs.Padding.{probed, firstLeaves, live, steps, leavesAfter, lastLeaves, liveAtEnd, Allowed, Stuck, RuleRun}
-use Rattle.document.specs.Judgements.{Judgement, plain, judgementOf, isOpen, setsInOrder, setsJudged, opened, orderFits, judgedNot, judged}
+use Rattle.document.specs.Judgements.{Judgement, plain, inner, strong, judgementOf, isOpen, setsInOrder, setsJudged, opened, orderFits, judgedNot, judged}
 use Rattle.document.specs.Judgements.{Ordered, NoneOpen, FirstOpen}
-use Rattle.document.specs.Starts.{Start, starts, patternCount, Small, IsStart}
-use Rattle.document.specs.Worth.{KeepsSecrets, PassesPlain}
+use Rattle.document.specs.Starts.{drawings, Start, starts, patternCount, Small, IsStart, FixDraws, FewFixDraws}
+use Rattle.document.specs.Worth.{KeepsSecrets, PassesPlain, PassesStrong}
 use Rattle.document.specs.Lent.{lentJudged}
 use Rattle.document.specs.Desk.{deskPrints, passLine, HasLine}
 use Rattle.document.specs.Examples.{Hold, claims, cases, shortcuts, no-shortcut}
-use Rattle.data.specs.Laws.Tests.{and-i, true-leb, true-ltb, cond-true, cond-false, elem→, elem←}
+use Rattle.data.specs.Laws.Tests.{and-i, cond-true, cond-false, elem→, elem←}
 use Rattle.document.specs.Laws.Values.{bit-lawful}
 use Rattle.document.specs.Laws.Sound.{sound}
 use Rattle.document.specs.Laws.Needed.{asc-low, watch-same, needed-mono, lower}
@@ -27,9 +28,12 @@ use Rattle.document.specs.Laws.Steps.{run-allowed, run-ends}
 use Rattle.document.specs.Laws.Orders.{one-run, step-count}
 use Rattle.document.specs.Laws.Orders as Orders
 use Rattle.document.specs.Laws.Sets.{asc, wire-set, sets→, sets←, sets-ordered}
-use Rattle.document.specs.Laws.Judging.{pass-exactly, open-has, open-is, passed-has, judged-is, order-below, plain-within, lent-passed}
+use Rattle.document.specs.Laws.Judging.{pass-exactly, open-has, open-is, passed-has, judged-is, order-below, lower-fits, closed-exactly, plain-within}
+use Rattle.document.specs.Laws.Judging.{lent-passed}
+use Rattle.document.specs.Laws.Strong.{strong-plain, strong-lower}
 use Rattle.document.specs.Laws.Starts as Starts
 use Rattle.document.specs.Laws.Secrecy as Secrecy
+use Rattle.document.specs.Laws.Draws as Draws
 use Rattle.document.specs.Laws.Printed.{cut-same}
 use Rattle.document.specs.Laws.Worth.{printed-pass}
 use Rattle.data.specs.declared.Refusal.the-variants as No
@@ -136,6 +140,15 @@ starts-are R secrets s = Starts.starts-are bit R secrets s
 pub starts-differ : (R : Routine) (secrets : List ℕ) → Once (starts bit R secrets)
 starts-differ R secrets = Starts.starts-differ bit R secrets
 
+-- 9.27: the list of drawings has every way to draw the randoms, and nothing else
+pub drawings-are : (R : Routine) (ρ : List ℕ)
+    → Among ρ (drawings bit R) ↔ ((length ρ ≡ randsBefore R (size R)) × (each (λ v. ltb v 2) ρ ≡ true))
+drawings-are R ρ = Starts.words-are bit (randsBefore R (size R)) ρ
+
+-- 9.27: it has each of them once
+pub drawings-differ : (R : Routine) → Once (drawings bit R)
+drawings-differ R = Starts.words-once bit (randsBefore R (size R))
+
 -- 9.3: every choice of the secrets has 2^(S·(D − 1)) starts for each way to draw the randoms
 pub starts-many : (R : Routine) → wellFormed R ≡ true → (secrets : List ℕ) → Small 2 secrets
     → length (starts bit R secrets) ≡ 2 ^ (R .S * (R .D - 1) + randsBefore R (size R))
@@ -146,14 +159,12 @@ starts-many R good secrets h = Starts.starts-many bit bit-lawful R (omega (arith
 -- 9.13: a routine that passes the plain judgement of order t passes that of each lower order, down to 1
 pub passes-below : (R : Routine) (t c : ℕ) → judged plain R t .verdict ≡ Says.Pass c
     → (k : ℕ) → 1 ≤ k → k ≤ t → judged plain R k .verdict ≡ Says.Pass (length (setsJudged plain R k))
-unfolding orderFits
 passes-below R t c e k some below =
     let p = passed-has plain R t c e in
     let o = order-below R t (p .order) in
     let so = sound R (p .good) in
     let w = plain-within R t .1 (pass-exactly plain R t c .0 (p .says) .0) in
-    let fits = and-i _ _ (and-i _ _ (true-leb 1 k some) (true-leb k 4 (omega (arith, o .1)))) (true-ltb k (R .D) (omega (arith, o .2))) in
-    passes-exactly plain R k (length (setsJudged plain R k)) (p .good) fits .1
+    passes-exactly plain R k (length (setsJudged plain R k)) (p .good) (lower-fits R k t (p .order) some below) .1
     (plain-within R k .0 (lower R so (λ ps. ps) (watch-same R) k t below (o .2) w), refl)
 
 -- 9.14, 9.15: where it passes at t, any set of at most t wires shows every pattern, for fixed public bits, from as many starts
@@ -191,6 +202,65 @@ lent-pass-keeps σ ws t c e =
 pub printed-pass-keeps : (text : List ℕ) (t c : ℕ) → HasLine (passLine t c) (deskPrints text)
     → (reading text .outcome ≡ Done) × PassesPlain (routineIn (reading text .listing)) t c
 printed-pass-keeps text t c h = let p = printed-pass t c text h in (p .0, pass-worth (routineIn (reading text .listing)) t c (p .1))
+
+-- ---- how often the randoms give a pattern
+
+module _ (R : Routine) (good : wellFormed R ≡ true) (ps : List ℕ) (low : (v : ℕ) → elem v ps ≡ true → v < size R) where
+  -- 9.29: whatever wires are observed, and after any allowed steps: the shares that are still live and the publics fix it
+  pub live-fix : (ss : List Step) → Allowed R (probed ps) (firstLeaves R) ss
+      → FixDraws bit R (at (live R (probed ps) (leavesAfter ss (firstLeaves R)))) ps
+  live-fix = Draws.live-fix bit bit-lawful R (sound R good) ps (λ v m. low v (elem← v ps m))
+
+  -- 9.29: so do the needed shares
+  pub needed-fix : FixDraws bit R (at (liveAtEnd R ps)) ps
+  needed-fix = Draws.needed-fix bit bit-lawful R (sound R good) ps (λ v m. low v (elem← v ps m))
+
+-- 9.30: where a judgement passes, of whatever it observes of a set at most as many shares of each secret as its bound do so
+pub pass-fixes : (J : Judgement) (R : Routine) (t c : ℕ) → judged J R t .verdict ≡ Says.Pass c
+    → (ps : List ℕ) → Among ps (setsJudged J R t) → ((v : ℕ) → elem v (J .observes R ps) ≡ true → v < size R)
+    → FewFixDraws bit R (J .bound R t ps) (J .observes R ps)
+pass-fixes J R t c e ps h low =
+    let p = passed-has J R t c e in
+    let closed = pass-exactly J R t c .0 (p .says) .0 ps h in
+    Draws.few-fix bit bit-lawful R (sound R (p .good)) (J .observes R ps) (λ v m. low v (elem← v (J .observes R ps) m))
+    (J .bound R t ps) (closed-exactly J R t ps .0 closed)
+
+-- ---- what a strong pass means
+
+-- 9.31: a routine that passes the strong judgement of order t passes the plain one, after as many sets
+pub strong-passes-plain : (R : Routine) (t c : ℕ) → judged strong R t .verdict ≡ Says.Pass c → judged plain R t .verdict ≡ Says.Pass c
+unfolding setsJudged
+strong-passes-plain R t c e =
+    let p = passed-has strong R t c e in
+    let s = pass-exactly strong R t c .0 (p .says) in
+    passes-exactly plain R t c (p .good) (p .order) .1 (strong-plain R t (s .0), s .1)
+
+-- 9.32: it passes the strong judgement of each lower order, down to 1
+pub strong-passes-below : (R : Routine) (t c : ℕ) → judged strong R t .verdict ≡ Says.Pass c
+    → (k : ℕ) → 1 ≤ k → k ≤ t → judged strong R k .verdict ≡ Says.Pass (length (setsJudged strong R k))
+strong-passes-below R t c e k some below =
+    let p = passed-has strong R t c e in
+    passes-exactly strong R k (length (setsJudged strong R k)) (p .good) (lower-fits R k t (p .order) some below) .1
+    (strong-lower R t (pass-exactly strong R t c .0 (p .says) .0) k below, refl)
+
+-- 9.33: of a set of i inner wires and o outputs, i + o from 1 to t, at most i shares of each secret and the publics fix how often the randoms
+-- give each pattern
+pub strong-fixes : (R : Routine) (t c : ℕ) → judged strong R t .verdict ≡ Says.Pass c
+    → (ps : List ℕ) → WireSet (size R) ps → 0 < length ps → length ps ≤ t → FewFixDraws bit R (inner R ps) ps
+unfolding setsJudged
+strong-fixes R t c e ps s some few = pass-fixes strong R t c e ps (sets← t (size R) ps (asc (size R) ps s) some few)
+    (λ v m. asc-low 0 (size R) ps v (asc (size R) ps s) (elem→ v ps m))
+
+-- 9.31 to 9.33: all of it
+pub strong-worth : (R : Routine) (t c : ℕ) → judged strong R t .verdict ≡ Says.Pass c → PassesStrong R t c
+strong-worth R t c e = record {
+  passes = e;
+  plainly = pass-worth R t c (strong-passes-plain R t c e);
+  below = strong-passes-below R t c e;
+  fixes = strong-fixes R t c e;
+}
+
+-- ---- the desk's input
 
 -- 8.16: a text cut off behind 4,097 bytes has the same lines as the whole
 pub cut-prints-same : (text : List ℕ) → deskPrints (take 4097 text) ≡ deskPrints text

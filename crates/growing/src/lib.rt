@@ -6,7 +6,6 @@ ghost use mathlib.Core.Path.{_≡_};
 ghost use mathlib.Core.List.{_∷_, [], _++_};
 ghost use Prim.Native.Nat.{_+_, _≤_, _<_};
 ghost use Rattle.data.specs.ProbeSets.{held, setOf};
-ghost use Rattle.document.specs.Judgements.{judgementOf};
 ghost use Rattle.growing.specs.Growing.{none, nothingGrown, ownWith, grownBy, Skipped, Holding, innerOf, boundOf};
 
 // What a search goes by from its first set to its last: the judgement, the routine and the order.
@@ -115,18 +114,6 @@ pub fn next_wire(
         w += 1;
     }
     w
-}
-
-// The sets of 1 to this many wires are judged.
-pub fn largest(q: Question) -> usize
-    requires { ⌜ 1 ≤ q .t ⌝ }
-    ensures { λ r. ⌜ r ≡ judgementOf (q .which) .largest (q .t) ⌝ }
-{
-    let which = q.which;
-    match which {
-        Which::Plain => q.t,
-        Which::Strong => q.t - 1,
-    }
 }
 
 // How many wires of the set are no outputs.

@@ -53,12 +53,16 @@ module _ (f : Shape → List Wire → ℕ → Judged) where
   pub strong-not-one : JudgesAll strong f → (b : Bool) → PassesOnly b → ⊥
   strong-not-one meets b one = apart
       (sym (ap (λ (j : Judged). told (j .verdict) .passes) (meets (sized pair) (pair .wires) 2 ∙ worked-strong .1)) ∙ one (sized pair) (pair .wires) 2)
-      (sym (ap (λ (j : Judged). told (j .verdict) .passes) (meets (sized exampleA) listA 2 ∙ worked-strong .0)) ∙ one (sized exampleA) listA 2)
+      (sym (ap (λ (j : Judged). told (j .verdict) .passes) (meets (sized exampleA) listA 1 ∙ worked-strong .0)) ∙ one (sized exampleA) listA 1)
 
   -- it never says open
   pub plain-not-closed : JudgesAll plain f → ((σ : Shape) (list : List Wire) (t : ℕ) → told (f σ list t .verdict) .opens ≡ false) → ⊥
   plain-not-closed meets never =
       apart (sym (never (sized exampleB) listB 1)) (sym (ap (λ (j : Judged). told (j .verdict) .opens) (meets (sized exampleB) listB 1 ∙ worked-plain .1)))
+
+  pub strong-not-closed : JudgesAll strong f → ((σ : Shape) (list : List Wire) (t : ℕ) → told (f σ list t .verdict) .opens ≡ false) → ⊥
+  strong-not-closed meets never = apart
+      (sym (never (sized pair) (pair .wires) 2)) (sym (ap (λ (j : Judged). told (j .verdict) .opens) (meets (sized pair) (pair .wires) 2 ∙ worked-strong .1)))
 
   -- it invents its count
   pub plain-count : JudgesAll plain f → told (f (sized exampleA) listA 1 .verdict) .count ≡ 9

@@ -15,17 +15,17 @@ ghost use Rattle.growing.specs.Growing.{opensIn, Fits};
 ghost use Rattle.searching.specs.Search.{foundUpTo};
 ghost use Rattle.judge.specs.Answers.{answerOf};
 
-// What is found among the sets of a judgement.
+// What is found among the sets of 1 to t wires.
 fn searched(q: Question) -> Found
-    requires { ⌜ (1 ≤ q .t) × (q .t ≤ 4) × Fits q ⌝ }
-    ensures { λ r. ⌜ r ≡ foundUpTo (opensIn q) (judgementOf (q .which) .largest (q .t)) (q .listing .shape .n) ⌝ }
+    requires { ⌜ (q .t ≤ 4) × Fits q ⌝ }
+    ensures { λ r. ⌜ r ≡ foundUpTo (opensIn q) (q .t) (q .listing .shape .n) ⌝ }
 {
     let listing = q.listing;
     let tables = cones::tables_of(listing);
     let shares = tables.shares;
     let rands = tables.rands;
     let own = tables.own;
-    searching::search_sizes(q, growing::largest(q), &shares, &rands, &own)
+    searching::search_sizes(q, q.t, &shares, &rands, &own)
 }
 
 fn answer_of(found: Found) -> Judged

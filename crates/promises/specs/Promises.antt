@@ -42,7 +42,7 @@ pub use Rattle.document.specs.Theorems.{sets-are, sets-in-order, refused-record
 pub use Rattle.impostors.specs.Impostors.{read-not-one, read-count, write-not-one, write-count, write-nothing, run-not-one, run-count, run-values}
 pub use Rattle.impostors.specs.Impostors.{needs-not-one, needs-not-always, needs-no-step, needs-first-step}
 pub use Rattle.impostors.specs.Impostors.{pads-not-one, pads-not-always, pads-steps, pads-only-listed}
-pub use Rattle.impostors.specs.Impostors.{plain-not-one, strong-not-one, plain-not-closed, plain-count, strong-count}
+pub use Rattle.impostors.specs.Impostors.{plain-not-one, strong-not-one, plain-not-closed, strong-not-closed, plain-count, strong-count}
 -- ---- demand 3: what a plain pass means
 
 -- the starts are every splitting of the secrets with every drawing of the randoms, each once; and counts of single patterns, computed
@@ -57,3 +57,12 @@ pub use Rattle.document.specs.Theorems.{pass-keeps, pass-worth, lent-pass-keeps
 pub use Rattle.report.specs.Laws.Worth.{reported-pass-keeps}
 -- what is cut off behind 4,097 bytes changes nothing that is printed; `desk` has this and the one before of what the program writes
 pub use Rattle.document.specs.Theorems.{cut-prints-same}
+-- ---- what a strong pass means
+
+-- the drawings are every way to draw the randoms, each once; and how often they give a pattern, computed
+pub use Rattle.document.specs.Theorems.{drawings-are, drawings-differ}
+pub use Rattle.document.specs.Examples.{draws}
+-- whatever is observed, the shares live after any allowed steps, and so the needed ones, fix that number with the publics; of a pass, as few as its bound
+pub use Rattle.document.specs.Theorems.{live-fix, needed-fix, pass-fixes}
+-- it is a plain pass, and a strong pass of every lower order; and as many shares as a set has inner wires fix how often each pattern comes
+pub use Rattle.document.specs.Theorems.{strong-passes-plain, strong-passes-below, strong-fixes, strong-worth}

@@ -1,31 +1,18 @@
 // Routines from standard input, each ended by a zero byte: what the judgements and the set calls answer for each, and some additions, printed.
-use data::Judged;
 use data::Listing;
 use data::Outcome;
 use data::ProbeSet;
 use data::Shape;
 use data::Step;
-use data::Verdict;
 use data::Which;
 use test_show::say;
 use test_show::say_number;
+use test_show::say_set;
+use test_show::show_judged;
 use test_show::wide;
 use test_show::wide_byte;
 
 // ---- sets
-
-// The wires of a set, those before its end.
-fn say_set(set: ProbeSet) {
-    let places = set.places;
-    let len = set.len;
-    let mut i = 0;
-    while i < 4 {
-        if i < len {
-            say_number(wide_byte(places[i]));
-        }
-        i += 1;
-    }
-}
 
 // An addition: its outcome, and all places of the set that came back.
 fn show_added(set: ProbeSet, w: usize) -> ProbeSet {
@@ -203,33 +190,6 @@ fn show_threes(listing: Listing, n: u8) {
 }
 
 // ---- judgements
-
-fn say_verdict(v: Verdict, set: ProbeSet) {
-    match v {
-        Verdict::Pass(count) => {
-            say(b" pass");
-            say_number(count);
-        }
-        Verdict::Open(count) => {
-            say(b" open");
-            say_number(count);
-            say_set(set);
-        }
-        Verdict::Refused(f) => {
-            say(b" refused");
-            say_number(f.number());
-        }
-    }
-    say(b"\n");
-}
-
-fn show_judged(word: &[u8], t: usize, j: Judged) {
-    let v = j.verdict;
-    let set = j.set;
-    say(word);
-    say_number(wide(t));
-    say_verdict(v, set);
-}
 
 // Both judgements of orders 0 to 5.
 fn show_orders(listing: Listing) {

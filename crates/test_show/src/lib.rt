@@ -1,5 +1,8 @@
 // Words and numbers on standard output, for the programs that run the calls and compare what they answer.
+use data::Judged;
 use data::Outcome;
+use data::ProbeSet;
+use data::Verdict;
 ghost use Prim.Native.Nat.{_+_, _≤_};
 ghost use lib.ListN.{length};
 
@@ -37,4 +40,46 @@ pub fn text_at(texts: &[u8], at: usize) -> &[u8]
     let rest = fields::tail(texts, at);
     let end = fields::part(rest, 0);
     fields::head(rest, end)
+}
+
+// ---- answers
+
+// The wires of a set, those before its end.
+pub fn say_set(set: ProbeSet) {
+    let places = set.places;
+    let len = set.len;
+    let mut i = 0;
+    while i < 4 {
+        if i < len {
+            say_number(wide_byte(places[i]));
+        }
+        i += 1;
+    }
+}
+
+pub fn say_verdict(v: Verdict, set: ProbeSet) {
+    match v {
+        Verdict::Pass(count) => {
+            say(b" pass");
+            say_number(count);
+        }
+        Verdict::Open(count) => {
+            say(b" open");
+            say_number(count);
+            say_set(set);
+        }
+        Verdict::Refused(f) => {
+            say(b" refused");
+            say_number(f.number());
+        }
+    }
+    say(b"\n");
+}
+
+pub fn show_judged(word: &[u8], t: usize, j: Judged) {
+    let v = j.verdict;
+    let set = j.set;
+    say(word);
+    say_number(wide(t));
+    say_verdict(v, set);
 }

@@ -13,12 +13,14 @@ use Rattle.data.specs.Basics.{tally, some, keep, at}
 use Rattle.document.specs.Routine.{Routine, size, wire, isRand}
 use Rattle.document.specs.Padding.{probed as probedMarks, firstLeaves, lastLeaves, liveAtEnd, pads, padsOf, bitsOf, neededOf}
 use Rattle.document.specs.Judgements.{Judgement, plain, strong, inner, isOpen}
-use Rattle.data.specs.Laws.Tests.{clash, out-of, bool-cases, eqb-true, true-eqb, ltb-true, ltb-false, wire-cases, some-none, none-some, tally-ext}
+use Rattle.data.specs.Laws.Tests.{clash, out-of, bool-cases, eqb-true, true-eqb, ltb-true, ltb-false, wire-cases, tally-ext}
 use Rattle.data.specs.Laws.Tests.{tally-mono, Mem}
+use Rattle.document.specs.Laws.Lists.{among-keep, among-kept, kept-few}
 use Rattle.document.specs.Laws.Rule.{Live, grows}
 use Rattle.document.specs.Laws.Live.{net}
 use Rattle.document.specs.Laws.Sound.{Sound, first-leaf←}
 use Rattle.document.specs.Laws.Needed.{probed→, probed←, asc-low, ended-at, needed-live, needed-tally}
+use Rattle.document.specs.Laws.Judging.{closed-exactly}
 use Rattle.data.specs.ProbeSets.{Asc}
 use Rattle.data.specs.declared.Kind.{Kind}
 use Rattle.cones.specs.Laws.Cone.{live-cone}
@@ -32,30 +34,6 @@ use Rattle.cones.specs.Laws.Seen.{Alone, Sees}
 unfoldable pub without : ℕ → List ℕ → List ℕ
 without x ps = keep (λ v. not (eqb v x)) ps
 
-kept-cases : {X : Type 0} (f : ℕ → Bool) (p : ℕ) (ps : List ℕ) (v : ℕ) → Mem v (cond (f p) (p ∷ keep f ps) (keep f ps)) → (v ≡ p → f p ≡ true → X)
-    → (Mem v (keep f ps) → X) → X
-kept-cases {X} f p ps v m g h = go (f p) refl m
-  where
-    go : (b : Bool) → f p ≡ b → Mem v (cond b (p ∷ keep f ps) (keep f ps)) → X
-    go true e (inl q) = g q e
-    go true e (inr k) = h k
-    go false e k = h k
-
-kept→ : (f : ℕ → Bool) (ps : List ℕ) (v : ℕ) → Mem v (keep f ps) → Mem v ps × (f v ≡ true)
-unfolding keep
-kept→ f [] v m = absurd m
-kept→ f (p ∷ ps) v m = kept-cases f p ps v m (λ q e. (inl q, ap f q ∙ e)) (λ k. let t = kept→ f ps v k in (inr (t .0), t .1))
-
-kept← : (f : ℕ → Bool) (ps : List ℕ) (v : ℕ) → Mem v ps → f v ≡ true → Mem v (keep f ps)
-unfolding keep
-kept← f [] v m i = absurd m
-kept← f (p ∷ ps) v (inl q) i = subst (λ (b : Bool). Mem v (cond b (p ∷ keep f ps) (keep f ps))) (sym (sym (ap f q) ∙ i)) (inl q)
-kept← f (p ∷ ps) v (inr m) i = go (f p) (kept← f ps v m i)
-  where
-    go : (b : Bool) → Mem v (keep f ps) → Mem v (cond b (p ∷ keep f ps) (keep f ps))
-    go true k = inr k
-    go false k = k
-
 kept-asc : (f : ℕ → Bool) (lo n : ℕ) (ps : List ℕ) → Asc lo n ps → Asc lo n (keep f ps)
 unfolding keep
 kept-asc f lo n [] a = tt
@@ -68,15 +46,6 @@ kept-asc f lo n (p ∷ ps) a = go (f p) (kept-asc f (suc p) n ps (a .2))
     go : (b : Bool) → Asc (suc p) n (keep f ps) → Asc lo n (cond b (p ∷ keep f ps) (keep f ps))
     go true k = (a .0, a .1, k)
     go false k = up (keep f ps) k
-
-kept-few : (f : ℕ → Bool) (ps : List ℕ) → length (keep f ps) ≤ length ps
-unfolding keep
-kept-few f [] = zero-le
-kept-few f (p ∷ ps) = go (f p) (kept-few f ps)
-  where
-    go : (b : Bool) → length (keep f ps) ≤ length ps → length (cond b (p ∷ keep f ps) (keep f ps)) ≤ length (p ∷ ps)
-    go true h = omega arith
-    go false h = omega arith
 
 pub without-less : (x : ℕ) (ps : List ℕ) → Mem x ps → length (without x ps) < length ps
 unfolding without keep
@@ -113,10 +82,10 @@ module _ (R : Routine) (so : Sound R) where
   marked-without : (ps : List ℕ) (x : ℕ) → ((v : ℕ) → Mem v ps → v < size R) → Without (at (probedMarks ps)) (at (probedMarks (without x ps))) x
   unfolding without
   marked-without ps x low = record {
-    sub = λ v i. let k = kept→ (λ v. not (eqb v x)) ps v (probed→ _ v i) in let b = low v (k .0) in let f = so .few in probed← ps v (omega arith) (k .0);
+    sub = λ v i. let k = among-kept (λ v. not (eqb v x)) v ps (probed→ _ v i) in let b = low v (k .0) in let f = so .few in probed← ps v (omega arith) (k .0);
     else = λ v i n. let k = probed→ ps v i in let b = low v k in let f = so .few in
-        probed← _ v (omega arith) (kept← (λ v. not (eqb v x)) ps v k (ap not (out-of (λ q. n (eqb-true v x q)))));
-    gone = out-of (λ i. clash (true-eqb x x refl) (go (eqb x x) (kept→ (λ v. not (eqb v x)) ps x (probed→ _ x i) .1)));
+        probed← _ v (omega arith) (among-keep (λ v. not (eqb v x)) v ps k (ap not (out-of (λ q. n (eqb-true v x q)))));
+    gone = out-of (λ i. clash (true-eqb x x refl) (go (eqb x x) (among-kept (λ v. not (eqb v x)) x ps (probed→ _ x i) .1)));
   }
     where
       go : (b : Bool) → not b ≡ true → b ≡ false
@@ -207,19 +176,12 @@ strong-steady = record { watches = λ R ps. refl; bounds = λ R t x ps. kept-kep
 
 module _ (J : Judgement) (steady : Steady J) (R : Routine) (so : Sound R) (t : ℕ) where
   closed : (ps : List ℕ) → ((i : ℕ) → i < R .S → neededOf R ps i ≤ J .bound R t ps) → isOpen J R t ps ≡ false
-  unfolding isOpen
-  closed ps h = none-some (R .S) _ (λ i i<S. out-of (λ e.
-      let a = ltb-true (J .bound R t ps) (neededOf R (J .observes R ps) i) e in
-      let b = ap (λ (qs : List ℕ). neededOf R qs i) (steady .watches R ps) in
-      let c = h i i<S in
-      omega arith))
+  closed ps h = closed-exactly J R t ps .1 (λ i i<S.
+      let a = ap (λ (qs : List ℕ). neededOf R qs i) (steady .watches R ps) in let b = h i i<S in omega arith)
 
   needs-of : (ps : List ℕ) → isOpen J R t ps ≡ false → (i : ℕ) → i < R .S → neededOf R ps i ≤ J .bound R t ps
-  unfolding isOpen
   needs-of ps e i i<S =
-      let a = ltb-false (J .bound R t ps) (neededOf R (J .observes R ps) i) (some-none (R .S) _ e i i<S) in
-      let b = ap (λ (qs : List ℕ). neededOf R qs i) (steady .watches R ps) in
-      omega arith
+      let a = ap (λ (qs : List ℕ). neededOf R qs i) (steady .watches R ps) in let b = closed-exactly J R t ps .0 e i i<S in omega arith
 
   -- a set with an own random is not open, where no smaller set is
   pub own-closed : (ps : List ℕ) → Asc 0 (size R) ps → (z : Seen) → Sees R ps z → z .own ≢ 0

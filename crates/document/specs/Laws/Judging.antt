@@ -15,7 +15,7 @@ use Rattle.document.specs.Judgements.{Judgement, plain, isOpen, setsJudg
 use Rattle.document.specs.Judgements.{orderFits, judgedNot, judged, FirstOpen, NoneOpen}
 use Rattle.document.specs.Lent.{lent, lentJudged}
 use Rattle.data.specs.Laws.Tests.{clash, cond-true, cond-false, ltb-true, ltb-false, out-of}
-use Rattle.data.specs.Laws.Tests.{some-none, none-some, leb-true, and-l, and-r}
+use Rattle.data.specs.Laws.Tests.{some-none, none-some, leb-true, true-leb, true-ltb, and-l, and-r, and-i}
 use Rattle.document.specs.Laws.Sets.{sets→, sets←}
 use Rattle.document.specs.Laws.Needed.{Within-order}
 use Rattle.data.specs.declared.Refusal.{Refusal}
@@ -168,15 +168,29 @@ pub order-below : (R : Routine) (t : ℕ) → orderFits R t ≡ true → (1 ≤ 
 unfolding orderFits
 order-below R t o = (leb-true 1 t (search (and-l, and-r)), leb-true t 4 (search (and-l, and-r)), ltb-true t (R .D) (search (and-l, and-r)))
 
--- ---- the plain judgement passes exactly when each set of 1 to t wires needs at most t shares of each secret
+-- with an order each lower one fits, down to 1
+pub lower-fits : (R : Routine) (k t : ℕ) → orderFits R t ≡ true → 1 ≤ k → k ≤ t → orderFits R k ≡ true
+unfolding orderFits
+lower-fits R k t o some below =
+    let b = order-below R t o in
+    and-i _ _ (and-i _ _ (true-leb 1 k some) (true-leb k 4 (omega (arith, b .1)))) (true-ltb k (R .D) (omega (arith, b .2)))
 
+-- ---- what is not open needs no more shares than its bound
+
+pub closed-exactly : (J : Judgement) (R : Routine) (t : ℕ) (ps : List ℕ)
+    → (isOpen J R t ps ≡ false) ↔ ((i : ℕ) → i < R .S → neededOf R (J .observes R ps) i ≤ J .bound R t ps)
+unfolding isOpen
+closed-exactly J R t ps =
+    let over : ℕ → Bool = λ i. ltb (J .bound R t ps) (neededOf R (J .observes R ps) i) in (
+      λ e i h. ltb-false (J .bound R t ps) (neededOf R (J .observes R ps) i) (some-none (R .S) over e i h),
+      λ f. none-some (R .S) over (λ i h. out-of (λ e.
+          let a = ltb-true (J .bound R t ps) (neededOf R (J .observes R ps) i) e in let b = f i h in omega arith)),
+    )
+
+-- the plain judgement passes exactly when each set of 1 to t wires needs at most t shares of each secret
 pub plain-within : (R : Routine) (t : ℕ) → Within-order R (λ ps. ps) t ↔ NoneOpen (isOpen plain R t) (setsJudged plain R t)
-unfolding isOpen setsJudged
+unfolding setsJudged
 plain-within R t = (
-  λ p ps h. let z = sets→ t (size R) ps h in
-      none-some (R .S) (λ i. ltb t (neededOf R ps i))
-      (λ i k. out-of (λ e. let a = ltb-true t (neededOf R ps i) e in let b = p .passes ps (z .0) (z .1) (z .2) i k in omega arith)),
-  λ f. record {
-    passes = λ ps a l m i k. ltb-false t (neededOf R ps i) (some-none (R .S) (λ i. ltb t (neededOf R ps i)) (f ps (sets← t (size R) ps a l m)) i k);
-  },
+  λ p ps h. let z = sets→ t (size R) ps h in closed-exactly plain R t ps .1 (p .passes ps (z .0) (z .1) (z .2)),
+  λ f. record { passes = λ ps a l m. closed-exactly plain R t ps .0 (f ps (sets← t (size R) ps a l m)) },
 )

@@ -3,7 +3,7 @@ use mathlib.Core.Path.{_≡_, refl, sym, ap, _∙_, subst}
 use mathlib.Core.Bool.{Bool, true, false, cond}
 use mathlib.Core.Logic.{_⊎_, inl, inr}
 use mathlib.Core.List.{List, [], _∷_, _++_, map, flatMap}
-use Prim.Native.Nat.{ℕ, zero, suc, _+_, _*_, _≤_, _<_}
+use Prim.Native.Nat.{ℕ, zero, suc, _+_, _*_, _≤_, _<_, zero-le}
 use native.Mathlib.Nat.{zero-mul, suc-mul}
 use native.Mathlib.Omega.{arith}
 use lib.ListN.{length, length-append}
@@ -122,6 +122,15 @@ module _ {A : Type 0} (h : A → Bool) where
       go : (b : Bool) → Once (keep h xs) → Once (cond b (x ∷ keep h xs) (keep h xs))
       go true rest = (λ k. o .0 (among-kept x xs k .0), rest)
       go false rest = rest
+
+  pub kept-few : (xs : List A) → length (keep h xs) ≤ length xs
+  unfolding keep
+  kept-few [] = zero-le
+  kept-few (x ∷ xs) = go (h x) (kept-few xs)
+    where
+      go : (b : Bool) → length (keep h xs) ≤ length xs → length (cond b (x ∷ keep h xs) (keep h xs)) ≤ length (x ∷ xs)
+      go true l = omega arith
+      go false l = omega arith
 
 -- ---- the numbers from lo on
 

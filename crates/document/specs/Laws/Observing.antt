@@ -12,14 +12,17 @@ use Rattle.data.specs.Basics.{one, keep, upTo, same, at}
 use Rattle.document.specs.Routine.{Routine, size, wire, isRand, randsBefore, pubsBefore}
 use Rattle.document.specs.Running.{Value, gives, valueAt, firstValues, running}
 use Rattle.document.specs.Padding.{probed as probedMarks, firstLeaves, lastLeaves, liveAtEnd, neededOf}
-use Rattle.document.specs.Starts.{allWords, splits, Start, starts, observed, patternCount, Small}
+use Rattle.document.specs.Starts.{allWords, splits, Start, starts, observed, patternCount, drawCount, Small}
 use Rattle.data.specs.Laws.Tests.{clash, bool-cases, wire-cases, tally-spare, Mem}
 use Rattle.document.specs.Laws.Marks.{Set}
 use Rattle.document.specs.Laws.Sums.{total, total-ext, words, words-ext}
 use Rattle.document.specs.Laws.Values.{Lawful, inner-ext, value, value-leaf, value-inner}
 use Rattle.document.specs.Laws.Splitting.{splitsAt, splitsTo, startSum, secret-free}
 use Rattle.document.specs.Laws.Sound.{Sound, first-leaf→, first-leaf←, first-slots}
-use Rattle.document.specs.Laws.Needed.{probed←, ended-at, needed-live, needed-tally}
+use Rattle.document.specs.Laws.Rule.{Live, probed, operand, Run}
+use Rattle.document.specs.Laws.Live.{net}
+use Rattle.document.specs.Laws.Counting.{Reads, fixed}
+use Rattle.document.specs.Laws.Needed.{probed→, probed←, ended-at, needed-live, needed-tally}
 use Rattle.data.specs.declared.Kind.{Kind}
 use Rattle.data.specs.declared.Kind.the-variants.{Share, Rand, Pub, Xor, And, Not}
 
@@ -189,20 +192,48 @@ module _ (K : Value) (law : Lawful K) (R : Routine) (so : Sound R) where
         (sum-map sees (start x) (allWords K m) ∙ sum-words K m _
         ∙ words-ext (K .many) (law .pos) m _ _ (λ ρ _ _. ap (λ (vs : List ℕ). one (same vs pattern)) (observed-is x ρ))))
 
+    -- it reads the observed wires only
+    shows-reads : Reads (at (probedMarks os)) (shows os pattern)
+    unfolding shows
+    shows-reads e e′ k = ap (λ (vs : List ℕ). one (same vs pattern))
+        (map-ext os e e′ (λ w m. let f = so .few in let b = low w m in k w (probed← os w (omega arith) m)))
+
     pub spare-counts : ((i : ℕ) → i < R .S → neededOf R os i < R .D) → Small (K .many) y
         → (secrets secrets′ : List ℕ) → Small (K .many) secrets → Small (K .many) secrets′
         → patternCount K R y os pattern secrets ≡ patternCount K R y os pattern secrets′
-    unfolding shows
     spare-counts few sy secrets secrets′ h h′ =
         count-is secrets
         ∙ secret-free K law R (so .earlier) (at (probedMarks os)) (at (firstLeaves R)) (randsBefore R) (randsBefore R (size R))
         (first-slots R (at (probedMarks os)))
-        (at (lastLeaves R os)) (ended-at R so os .run) y sy (shows os pattern)
-        (λ e e′ k. ap (λ (vs : List ℕ). one (same vs pattern))
-        (map-ext os e e′ (λ w m. let f = so .few in let b = low w m in k w (probed← os w (omega arith) m))))
+        (at (lastLeaves R os)) (ended-at R so os .run) y sy (shows os pattern) shows-reads
         (λ i i<S. let f = few i i<S in
         let is = needed-tally R so os i i<S in
         let s = tally-spare (R .D) (λ j. at (liveAtEnd R os) (i * R .D + j)) (omega arith) in
         (s .0, s .1, λ l. clash (needed-live R so os (i * R .D + s .0) .1 l) (s .2)))
         (λ i. getD secrets i 0) (λ i. getD secrets′ i 0) h h′
         ∙ sym (count-is secrets′)
+
+    -- ---- how often the randoms give the pattern
+
+    draws-are : (x : List ℕ) → drawCount K R y os pattern x
+        ≡ words (K .many) (randsBefore R (size R)) (λ ρ. shows os pattern (value K law R (at (firstLeaves R)) (randsBefore R) x ρ y))
+    unfolding drawCount shows
+    draws-are x =
+        kept-words K (randsBefore R (size R)) (λ ρ. same (observed K R y os (record { shares = x; randoms = ρ })) pattern)
+        ∙ words-ext (K .many) (law .pos) (randsBefore R (size R)) _ _ (λ ρ _ _. ap (λ (vs : List ℕ). one (same vs pattern)) (observed-is x ρ))
+
+    -- a live wire is a wire
+    live-low : (L : Set) (w : ℕ) → Live (net R) (at (probedMarks os)) L w → w < size R
+    live-low L w (probed p) = low w (probed→ os w p)
+    live-low L w (operand {u} l o q) = let a = so .earlier u w q in let b = so .within u w q in omega arith
+
+    -- after any run, the shares still live and the publics fix it
+    pub run-fixes : (L : Set) → Run (net R) (at (probedMarks os)) (at (firstLeaves R)) L → Small (K .many) y
+        → (x x′ : List ℕ) → Small (K .many) x → Small (K .many) x′
+        → ((w : ℕ) → w < R .S * R .D → Live (net R) (at (probedMarks os)) L w → getD x w 0 ≡ getD x′ w 0)
+        → drawCount K R y os pattern x ≡ drawCount K R y os pattern x′
+    run-fixes L run sy x x′ sx sx′ agree =
+        draws-are x
+        ∙ fixed K law R (so .earlier) (at (probedMarks os)) (at (firstLeaves R)) (randsBefore R) (randsBefore R (size R))
+        (first-slots R (at (probedMarks os))) L run x x′ y (λ w l s. agree w (so .places w (live-low L w l) s) l) sx sx′ sy (shows os pattern) shows-reads
+        ∙ sym (draws-are x′)

@@ -52,6 +52,11 @@ module _ (R : Routine) (so : Sound R) (ps : List ℕ) where
   unfolding steps
   steps-run = rule-run R (so .earlier) (so .within) (probed ps) long (size R) (firstLeaves R) first-long (left-most R (firstLeaves R))
 
+  -- 3.20: a list of allowed steps is a run
+  pub allowed-walk : (ss : List Pair) → Allowed R (probed ps) (firstLeaves R) ss
+      → Run (net R) (at (probed ps)) (at (firstLeaves R)) (at (leavesAfter ss (firstLeaves R)))
+  allowed-walk ss = allowed-run R (so .earlier) (so .within) (probed ps) long (firstLeaves R) ss (firstLeaves R) first-long start
+
   -- 3.24: all lists of allowed steps that go on to the end have the same live wires
   pub any-order : (ss ss′ : List Pair) → Allowed R (probed ps) (firstLeaves R) ss → Stuck R (probed ps) (leavesAfter ss (firstLeaves R))
       → Allowed R (probed ps) (firstLeaves R) ss′ → Stuck R (probed ps) (leavesAfter ss′ (firstLeaves R))
@@ -59,17 +64,13 @@ module _ (R : Routine) (so : Sound R) (ps : List ℕ) where
   any-order ss ss′ a s a′ s′ v =
       let L = leavesAfter ss (firstLeaves R) in
       let L′ = leavesAfter ss′ (firstLeaves R) in
-      let same = confluent (net R) (at (probed ps)) (at (firstLeaves R)) (walk ss a) (end L s) (walk ss′ a′) (end L′ s′) v in
+      let same = confluent (net R) (at (probed ps)) (at (firstLeaves R)) (allowed-walk ss a) (end L s) (allowed-walk ss′ a′) (end L′ s′) v in
       let is = live-is R (so .earlier) L (so .within) (probed ps) long v in
       let is′ = live-is R (so .earlier) L′ (so .within) (probed ps) long v in
       bool-cases (at (live R (probed ps) L′) v)
       (λ i. is .1 (same .1 (is′ .0 i)) ∙ sym i)
       (λ o. out-of (λ i. clash (is′ .1 (same .0 (is .0 i))) o) ∙ sym o)
     where
-      walk : (ss : List Pair) → Allowed R (probed ps) (firstLeaves R) ss
-          → Run (net R) (at (probed ps)) (at (firstLeaves R)) (at (leavesAfter ss (firstLeaves R)))
-      walk ss = allowed-run R (so .earlier) (so .within) (probed ps) long (firstLeaves R) ss (firstLeaves R) first-long start
-
       end : (leaf : Marks) → Stuck R (probed ps) leaf → Final (net R) (at (probed ps)) (at leaf)
       end = stuck-final R (so .earlier) (so .within) (probed ps) long
 

@@ -3,7 +3,7 @@ use mathlib.Core.Path.{_≡_, refl, ap, _∙_, subst}
 use mathlib.Core.Bool.{Bool, true, false, not, _&&_, cond}
 use mathlib.Core.Logic.{inl, inr}
 use mathlib.Core.List.{List, [], _∷_}
-use Prim.Native.Nat.{ℕ, zero, suc, _+_, _*_, _≤_, _<_}
+use Prim.Native.Nat.{ℕ, zero, suc, _+_, _*_, _/_, _%_, _≤_, _<_}
 use native.Mathlib.Decide.{decLe}
 use native.Mathlib.Omega.{arith}
 use lib.Dec.{eqb, ltb, leb}
@@ -31,6 +31,7 @@ pub record Sound (R : Routine) : Type 0 where
   pub few-secrets : R .S ≤ 8
   pub few-shares : R .D ≤ 8
   pub kinds : (w : ℕ) → w < R .S * R .D → wire R w .kind ≡ Share
+  pub places : (w : ℕ) → w < size R → wire R w .kind ≡ Share → w < R .S * R .D
 
 two-earlier : (w a b v : ℕ) (c : Bool) → (c && ltb a w && ltb b w) ≡ true → Mem v (a ∷ b ∷ []) → v < w
 two-earlier w a b v c e (inl q) = omega (arith, ltb-true a w (and-r c (ltb a w) (and-l (c && ltb a w) (ltb b w) e)))
@@ -96,7 +97,7 @@ module _ (R : Routine) (good : wellFormed R ≡ true) where
   record-at w h = all-at (size R) (record-fits R) records w h
 
   pub sound : Sound R
-  unfolding inRange ceilings operands pads
+  unfolding inRange ceilings fits operands pads
   sound = record {
     earlier = λ u v m. fits-earlier R u (wire R u .kind) (wire R u .a) (wire R u .b) v (record-at u (within-of R u v m)) m;
     within = within-of R;
@@ -108,6 +109,8 @@ module _ (R : Routine) (good : wellFormed R ≡ true) where
     few-shares = leb-true (R .D) 8 (let z = ranged in search (and-l, and-r));
     kinds = λ w h. fits-share R w (wire R w .kind) (wire R w .a) (wire R w .b)
         (record-at w (let z = leb-true (R .S * R .D) (size R) room-for-shares in omega arith)) h;
+    places = λ w h s. ltb-true w (R .S * R .D) (first-of (ltb w (R .S * R .D)) (eqb (wire R w .a) (w / R .D)) (eqb (wire R w .b) (w % R .D))
+        (subst (λ (k : Kind). fits R w k (wire R w .a) (wire R w .b) ≡ true) s (record-at w h)));
   }
 
 -- shares have no pads, so the wires with pads are no shares

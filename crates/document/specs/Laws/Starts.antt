@@ -48,7 +48,10 @@ module _ (K : Value) where
       let l = upTo-among (K .many) 0 (t .0) (t .1) .1 in
       rw (u .1) (ap suc (i .0), and-i _ _ (true-ltb (t .0) (K .many) (omega arith)) (i .1))
 
-  words-once : (m : ℕ) → Once (allWords K m)
+  pub words-are : (m : ℕ) (xs : List ℕ) → Among xs (allWords K m) ↔ ((length xs ≡ m) × Values xs)
+  words-are m xs = (words→ m xs, λ is. subst (λ (k : ℕ). Among xs (allWords K k)) (is .0) (words← xs (is .1)))
+
+  pub words-once : (m : ℕ) → Once (allWords K m)
   unfolding allWords
   words-once zero = (λ h. h, tt)
   words-once (suc m) =

@@ -70,9 +70,9 @@ pub worked-plain : (lentJudged plain (sized exampleA) listA 1 ≡ passed 9) × (
 unfolding lent lentJudged
 worked-plain = (lines .0, cases .1 .1 .1 .1 .1 .0)
 
-pub worked-strong : (lentJudged strong (sized exampleA) listA 2 ≡ passed 9) × (lentJudged strong (sized pair) (pair .wires) 2 ≡ opened 4 (3 ∷ []))
+pub worked-strong : (lentJudged strong (sized exampleA) listA 1 ≡ passed 9) × (lentJudged strong (sized pair) (pair .wires) 2 ≡ opened 4 (3 ∷ []))
 unfolding whole-lent whole-judgements
-worked-strong = (lines .3, refl)
+worked-strong = (lines .1, refl)
 
 -- ---- one probe set
 

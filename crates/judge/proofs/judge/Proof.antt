@@ -3,7 +3,7 @@ use mathlib.Core.Path.{sym, _∙_}
 use borrow.Author.Needs.{needs}
 use borrow.Author.Tests.{not-true, not-false}
 use Rattle.asking.specs.Laws.Checks.{order-high}
-use Rattle.judge.specs.Laws.Answers.{not-records, not-order, judged-answer, order-low}
+use Rattle.judge.specs.Laws.Answers.{not-records, not-order, judged-answer}
 use Rattle.judge.proofs.judge.Statement.{statement}
 use Rattle.judge.proofs.judge.Tie as tie
 
@@ -34,7 +34,7 @@ returns-2 c = let f = c .before .before .before .before in
 searched-requires : tie.Need-searched-requires
 searched-requires c κs = let good = sym (c .before .before .before .records-fit .ensures) ∙ not-false _ (c .before .before .if1 .left) in
     let order = sym (c .before .order-fits .ensures) ∙ not-false _ (c .if2 .left) in
-    (order-low _ _ order, order-high _ _ order, good)
+    (order-high _ _ order, good)
 
 answer-of-requires : tie.Need-answer-of-requires
 answer-of-requires c κs = search needs

@@ -1,15 +1,14 @@
 -- The answers of a judgement: its refusals, and what its search found.
-use mathlib.Core.Path.{_≡_, refl, sym, ap, _∙_}
-use mathlib.Core.Bool.{Bool, true, false, _&&_, cond}
+use mathlib.Core.Path.{_≡_, refl, sym, ap, ap₂, _∙_}
+use mathlib.Core.Bool.{Bool, true, false, cond}
 use mathlib.Core.List.{List, [], _∷_}
-use Prim.Native.Nat.{ℕ, suc, _≤_}
-use native.Mathlib.Omega.{arith}
-use lib.Dec.{leb, ltb}
+use Prim.Native.Nat.{ℕ, suc}
+use lib.Dec.{leb}
 use lib.ListN.{length}
 use Rattle.document.specs.Routine.{Routine, size, wellFormed, routineOf, recordsFit}
 use Rattle.document.specs.Judgements.{isOpen, setsInOrder, setsJudged, opened, firstOpen, judgement, orderFits, judgedNot, judged, judgementOf}
 use Rattle.document.specs.Lent.{lent, lentJudged}
-use Rattle.data.specs.Laws.Tests.{bool-cases, and-l, and-r, leb-true}
+use Rattle.data.specs.Laws.Tests.{bool-cases, and-l, and-r}
 use Rattle.data.specs.declared.Refusal.the-variants as No
 use Rattle.data.specs.declared.Judged.{Judged}
 use Rattle.data.specs.declared.Wire.{Wire}
@@ -33,6 +32,11 @@ answer-is opens k (ps ∷ later) = go (opens ps) (answer-is opens (suc k) later)
     go true e = refl
     go false e = e
 
+-- 5.3, 5.4: at order t either judgement has the sets of up to t wires
+largest-is : (which : Which) (t : ℕ) → t ≡ judgementOf which .largest t
+largest-is Plain t = refl
+largest-is Strong t = refl
+
 module _ (which : Which) (σ : Shape) (ws : List Wire) (t : ℕ) where
   abbrev R : Routine
   R = routineOf σ ws
@@ -54,22 +58,12 @@ module _ (which : Which) (σ : Shape) (ws : List Wire) (t : ℕ) where
   unfolding lentJudged lent judged orderFits orderIn
   not-order e o = let p = fit-parts e in simp (p .0, p .1, o)
 
-  pub judged-answer : recordsFit σ ws ≡ true → orderIn (σ .d) t ≡ true → (x : Found) → x ≡ foundUpTo opens (judgementOf which .largest t) (σ .n)
+  pub judged-answer : recordsFit σ ws ≡ true → orderIn (σ .d) t ≡ true → (x : Found) → x ≡ foundUpTo opens t (σ .n)
       → (r : Judged) → r ≡ answerOf x
       → r ≡ lentJudged (judgementOf which) σ ws t
   unfolding lentJudged lent judged orderFits orderIn judgement setsJudged foundUpTo
   judged-answer e o x q r a =
       let p = fit-parts e in
       let z = fit-of σ ws e .sized in
-      a ∙ ap answerOf (q ∙ ap (λ (m : ℕ). search opens 0 (setsInOrder (judgementOf which .largest t) m)) (sym z))
+      a ∙ ap answerOf (q ∙ ap₂ (λ (k m : ℕ). search opens 0 (setsInOrder k m)) (largest-is which t) (sym z))
       ∙ answer-is opens 0 (setsInOrder (judgementOf which .largest t) (size R)) ∙ simp (p .0, p .1, o)
-
--- 12 passed
-pub order-low : (d t : ℕ) → orderIn d t ≡ true → 1 ≤ t
-unfolding orderIn
-order-low d t e = leb-true 1 t (and-l (leb 1 t) (leb t 4) (and-l (leb 1 t && leb t 4) (ltb t d) e))
-
--- the sizes judged are at most four
-pub largest-few : (which : Which) (t : ℕ) → t ≤ 4 → judgementOf which .largest t ≤ 4
-largest-few Plain t h = h
-largest-few Strong t h = omega arith

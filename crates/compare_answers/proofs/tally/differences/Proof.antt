@@ -8,7 +8,7 @@ abbrev Inv-loop : tie.InvT-loop
 Inv-loop t sum₀ k₀ sum k = 0 ≤ k
 
 abbrev μ-loop : tie.MeasureT-loop
-μ-loop t sum₀ k₀ sum k = 40 - k
+μ-loop t sum₀ k₀ sum k = 64 - k
 
 loop-holds : tie.Need-loop-holds Inv-loop μ-loop
 loop-holds c = search needs

@@ -1,5 +1,5 @@
 -- `compare_judging::judged::compare_judged` is safe and ends.
-use Prim.Native.Nat.{_≤_, _-_}
+use Prim.Native.Nat.{_-_, _≤_}
 use borrow.Author.Needs.{needs}
 use Rattle.compare_judging.proofs.judged.compare_judged.Statement.{statement}
 use Rattle.compare_judging.proofs.judged.compare_judged.Tie as tie
@@ -16,17 +16,17 @@ lower-requires c κs = search needs
 loop-holds : tie.Need-loop-holds Inv-loop μ-loop
 loop-holds c = search needs
 
-at-requires : tie.Need-at-requires Inv-loop μ-loop
-at-requires c κs = search needs
-
 compare-order-requires : tie.Need-compare-order-requires Inv-loop μ-loop
 compare-order-requires c κs = search needs
 
-at-requires-2 : tie.Need-at-requires-2 Inv-loop μ-loop
-at-requires-2 c κs = search needs
+newly-open-requires : tie.Need-newly-open-requires Inv-loop μ-loop
+newly-open-requires c κs = search needs
 
-compare-lower-requires : tie.Need-compare-lower-requires Inv-loop μ-loop
-compare-lower-requires c κs = search needs
+compare-passes-requires : tie.Need-compare-passes-requires Inv-loop μ-loop
+compare-passes-requires c κs = search needs
+
+either-open-requires : tie.Need-either-open-requires Inv-loop μ-loop
+either-open-requires c κs = search needs
 
 add-order : tie.Need-add-order Inv-loop μ-loop
 add-order c = search needs
@@ -48,10 +48,10 @@ compare-judged-spec =
     μ-loop
     lower-requires
     loop-holds
-    at-requires
     compare-order-requires
-    at-requires-2
-    compare-lower-requires
+    newly-open-requires
+    compare-passes-requires
+    either-open-requires
     add-order
     loop-less
     loop-again

@@ -1,17 +1,20 @@
 -- `compare_judging::judged::observe` is safe and ends.
-use Prim.Native.Nat.{_≤_, _-_}
+use Prim.Native.Nat.{_-_, _≤_}
 use borrow.Author.Needs.{needs}
 use Rattle.compare_judging.proofs.judged.observe.Statement.{statement}
 use Rattle.compare_judging.proofs.judged.observe.Tie as tie
 
 abbrev Inv-loop : tie.InvT-loop
-Inv-loop order r pubs values u₀ publics₀ u publics = 0 ≤ publics
+Inv-loop which order r pubs values u₀ publics₀ u publics = 0 ≤ publics
 
 abbrev μ-loop : tie.MeasureT-loop
-μ-loop order r pubs values u₀ publics₀ u publics = values - publics
+μ-loop which order r pubs values u₀ publics₀ u publics = values - publics
 
-small-requires : tie.Need-small-requires Inv-loop μ-loop
-small-requires c κs = search needs
+starts-of-requires : tie.Need-starts-of-requires Inv-loop μ-loop
+starts-of-requires c κs = search needs
+
+most-starts-requires : tie.Need-most-starts-requires Inv-loop μ-loop
+most-starts-requires c κs = search needs
 
 returns : tie.Need-returns Inv-loop μ-loop
 returns c = search needs
@@ -46,7 +49,8 @@ observe-spec =
     (tie.spec
     Inv-loop
     μ-loop
-    small-requires
+    starts-of-requires
+    most-starts-requires
     returns
     count-kind-requires
     shl-values

@@ -1,14 +1,14 @@
 -- `compare_judging::judged::observe_size` is safe and ends.
-use Prim.Native.Nat.{_≤_, _-_}
+use Prim.Native.Nat.{_-_, _≤_}
 use borrow.Author.Needs.{needs}
 use Rattle.compare_judging.proofs.judged.observe_size.Statement.{statement}
 use Rattle.compare_judging.proofs.judged.observe_size.Tie as tie
 
 abbrev Inv-loop : tie.InvT-loop
-Inv-loop s n size ones chosen set₀ u₀ k₀ set u k = 0 ≤ k
+Inv-loop r which size ones chosen n set₀ u₀ k₀ set u k = 0 ≤ k
 
 abbrev μ-loop : tie.MeasureT-loop
-μ-loop s n size ones chosen set₀ u₀ k₀ set u k = 1000000 - k
+μ-loop r which size ones chosen n set₀ u₀ k₀ set u k = 1000000 - k
 
 returns : tie.Need-returns Inv-loop μ-loop
 returns c = search needs
@@ -19,11 +19,8 @@ first-set-requires c κs = search needs
 loop-holds : tie.Need-loop-holds Inv-loop μ-loop
 loop-holds c = search needs
 
-is-even-requires : tie.Need-is-even-requires Inv-loop μ-loop
-is-even-requires c κs = search needs
-
-compared-requires : tie.Need-compared-requires Inv-loop μ-loop
-compared-requires c κs = search needs
+observe-set-requires : tie.Need-observe-set-requires Inv-loop μ-loop
+observe-set-requires c κs = search needs
 
 rising-requires : tie.Need-rising-requires Inv-loop μ-loop
 rising-requires c κs = search needs
@@ -55,8 +52,7 @@ observe-size-spec =
     returns
     first-set-requires
     loop-holds
-    is-even-requires
-    compared-requires
+    observe-set-requires
     rising-requires
     returns-2
     risen-requires

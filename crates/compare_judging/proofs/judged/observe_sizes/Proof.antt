@@ -1,14 +1,14 @@
 -- `compare_judging::judged::observe_sizes` is safe and ends.
-use Prim.Native.Nat.{_≤_, _-_}
+use Prim.Native.Nat.{_-_, _≤_}
 use borrow.Author.Needs.{needs}
 use Rattle.compare_judging.proofs.judged.observe_sizes.Statement.{statement}
 use Rattle.compare_judging.proofs.judged.observe_sizes.Tie as tie
 
 abbrev Inv-loop : tie.InvT-loop
-Inv-loop publics top ones chosen s n u₀ size₀ u size = 0 ≤ size
+Inv-loop r which publics top ones chosen u₀ size₀ u size = 0 ≤ size
 
 abbrev μ-loop : tie.MeasureT-loop
-μ-loop publics top ones chosen s n u₀ size₀ u size = top - size
+μ-loop r which publics top ones chosen u₀ size₀ u size = top - size
 
 all-starts-requires : tie.Need-all-starts-requires Inv-loop μ-loop
 all-starts-requires c κs = search needs
@@ -16,11 +16,8 @@ all-starts-requires c κs = search needs
 nothing-requires : tie.Need-nothing-requires Inv-loop μ-loop
 nothing-requires c κs = search needs
 
-is-even-requires : tie.Need-is-even-requires Inv-loop μ-loop
-is-even-requires c κs = search needs
-
-compared-requires : tie.Need-compared-requires Inv-loop μ-loop
-compared-requires c κs = search needs
+observe-set-requires : tie.Need-observe-set-requires Inv-loop μ-loop
+observe-set-requires c κs = search needs
 
 loop-holds : tie.Need-loop-holds Inv-loop μ-loop
 loop-holds c = search needs
@@ -48,8 +45,7 @@ observe-sizes-spec =
     μ-loop
     all-starts-requires
     nothing-requires
-    is-even-requires
-    compared-requires
+    observe-set-requires
     loop-holds
     add-size
     observe-size-requires

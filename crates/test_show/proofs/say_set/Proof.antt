@@ -1,8 +1,8 @@
--- `test_sets::say_set` is safe and ends.
+-- `test_show::say_set` is safe and ends.
 use borrow.Author.Needs.{needs}
 use Prim.Native.Nat.{_≤_, _-_}
-use Rattle.test_sets.proofs.say_set.Statement.{statement}
-use Rattle.test_sets.proofs.say_set.Tie as tie
+use Rattle.test_show.proofs.say_set.Statement.{statement}
+use Rattle.test_show.proofs.say_set.Tie as tie
 
 abbrev Inv-loop : tie.InvT-loop
 Inv-loop places len i₀ i = i ≤ 4
