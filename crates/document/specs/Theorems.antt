@@ -140,6 +140,11 @@ starts-are R secrets s = Starts.starts-are bit R secrets s
 pub starts-differ : (R : Routine) (secrets : List ℕ) → Once (starts bit R secrets)
 starts-differ R secrets = Starts.starts-differ bit R secrets
 
+-- 9.3: every choice of the secrets has 2^(S·(D − 1)) starts for each way to draw the randoms
+pub starts-many : (R : Routine) → wellFormed R ≡ true → (secrets : List ℕ) → Small 2 secrets
+    → length (starts bit R secrets) ≡ 2 ^ (R .S * (R .D - 1) + randsBefore R (size R))
+starts-many R good secrets h = Starts.starts-many bit bit-lawful R (omega (arith, sound R good .some-shares)) secrets h
+
 -- 9.27: the list of drawings has every way to draw the randoms, and nothing else
 pub drawings-are : (R : Routine) (ρ : List ℕ)
     → Among ρ (drawings bit R) ↔ ((length ρ ≡ randsBefore R (size R)) × (each (λ v. ltb v 2) ρ ≡ true))
@@ -148,11 +153,6 @@ drawings-are R ρ = Starts.words-are bit (randsBefore R (size R)) ρ
 -- 9.27: it has each of them once
 pub drawings-differ : (R : Routine) → Once (drawings bit R)
 drawings-differ R = Starts.words-once bit (randsBefore R (size R))
-
--- 9.3: every choice of the secrets has 2^(S·(D − 1)) starts for each way to draw the randoms
-pub starts-many : (R : Routine) → wellFormed R ≡ true → (secrets : List ℕ) → Small 2 secrets
-    → length (starts bit R secrets) ≡ 2 ^ (R .S * (R .D - 1) + randsBefore R (size R))
-starts-many R good secrets h = Starts.starts-many bit bit-lawful R (omega (arith, sound R good .some-shares)) secrets h
 
 -- ---- demand 3
 

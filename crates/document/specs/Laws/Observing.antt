@@ -177,9 +177,18 @@ module _ (K : Value) (law : Lawful K) (R : Routine) (so : Sound R) where
     unfolding observed
     observed-is x ρ = map-ext os _ _ (λ w m. running-is x ρ y w (low w m))
 
+    -- how often the randoms give the pattern, as a sum over their words
+    draws-are : (x : List ℕ) → drawCount K R y os pattern x
+        ≡ words (K .many) (randsBefore R (size R)) (λ ρ. shows os pattern (value K law R (at (firstLeaves R)) (randsBefore R) x ρ y))
+    unfolding drawCount shows
+    draws-are x =
+        kept-words K (randsBefore R (size R)) (λ ρ. same (observed K R y os (record { shares = x; randoms = ρ })) pattern)
+        ∙ words-ext (K .many) (law .pos) (randsBefore R (size R)) _ _ (λ ρ _ _. ap (λ (vs : List ℕ). one (same vs pattern)) (observed-is x ρ))
+
+    -- from how many starts it is shown, which is that number for each splitting of the secrets
     count-is : (secrets : List ℕ) → patternCount K R y os pattern secrets
         ≡ startSum K law R (randsBefore R (size R)) (at (firstLeaves R)) (randsBefore R) y (shows os pattern) (λ i. getD secrets i 0)
-    unfolding patternCount starts startSum splits splitsTo splitsAt shows
+    unfolding patternCount starts startSum splits splitsTo splitsAt drawCount
     count-is secrets =
         let m = randsBefore R (size R) in
         let start : List ℕ → List ℕ → Start = λ x ρ. record { shares = x; randoms = ρ } in
@@ -189,8 +198,7 @@ module _ (K : Value) (law : Lawful K) (R : Routine) (so : Sound R) where
         ∙ sum-kept (λ x. sumOf sees (map (start x) (allWords K m))) (splits K R secrets) (allWords K (R .S * R .D))
         ∙ sum-words K (R .S * R .D) _
         ∙ words-ext (K .many) (law .pos) (R .S * R .D) _ _ (λ x _ _. ap (λ (c : ℕ). cond (splits K R secrets x) c 0)
-        (sum-map sees (start x) (allWords K m) ∙ sum-words K m _
-        ∙ words-ext (K .many) (law .pos) m _ _ (λ ρ _ _. ap (λ (vs : List ℕ). one (same vs pattern)) (observed-is x ρ))))
+        (sum-map sees (start x) (allWords K m) ∙ sym (kept-sum (λ ρ. same (observed K R y os (start x ρ)) pattern) (allWords K m)) ∙ draws-are x))
 
     -- it reads the observed wires only
     shows-reads : Reads (at (probedMarks os)) (shows os pattern)
@@ -213,14 +221,7 @@ module _ (K : Value) (law : Lawful K) (R : Routine) (so : Sound R) where
         (λ i. getD secrets i 0) (λ i. getD secrets′ i 0) h h′
         ∙ sym (count-is secrets′)
 
-    -- ---- how often the randoms give the pattern
-
-    draws-are : (x : List ℕ) → drawCount K R y os pattern x
-        ≡ words (K .many) (randsBefore R (size R)) (λ ρ. shows os pattern (value K law R (at (firstLeaves R)) (randsBefore R) x ρ y))
-    unfolding drawCount shows
-    draws-are x =
-        kept-words K (randsBefore R (size R)) (λ ρ. same (observed K R y os (record { shares = x; randoms = ρ })) pattern)
-        ∙ words-ext (K .many) (law .pos) (randsBefore R (size R)) _ _ (λ ρ _ _. ap (λ (vs : List ℕ). one (same vs pattern)) (observed-is x ρ))
+    -- ---- what fixes how often the randoms give the pattern
 
     -- a live wire is a wire
     live-low : (L : Set) (w : ℕ) → Live (net R) (at (probedMarks os)) L w → w < size R
