@@ -85,18 +85,18 @@ fn observe_sizes(t: [u64; 104], r: Small, which: Which, publics: u64, top: usize
     u
 }
 
-// Up to how many starts a routine's sets are observed.
-fn most_starts(which: Which) -> usize {
+// Whether the sets of a pass can be observed.
+fn is_small(r: Small, which: Which) -> bool {
     match which {
-        Which::Plain => 512,
-        Which::Strong => 256,
+        Which::Plain => r.starts != 0,
+        Which::Strong => starts::can_draw(r),
     }
 }
 
 // A pass is held to what it means, with the public bits fixed at each of their values.
 fn observe(t: [u64; 104], g: Listing, which: Which, order: usize) -> [u64; 104] {
     let r = starts::starts_of(g);
-    if (r.starts == 0) | (most_starts(which) < r.starts) {
+    if !is_small(r, which) {
         return t;
     }
     let ws = g.wires;

@@ -155,7 +155,7 @@ pub fn compare_sets(t: [u64; 104], g: Listing, seed: u64, count: u64) -> [u64; 1
 
 // ---- drawings
 
-// 9.29: how often the randoms give each pattern of the set depends on needed shares alone.
+// 9.29: how often the randoms give each pattern of the set depends on needed shares alone, those that the product gives.
 fn compare_drawn(
     t: [u64; 104],
     r: Small,
@@ -167,8 +167,9 @@ fn compare_drawn(
     if own.refusal != 0 {
         return t;
     }
+    let n = rule::needs(r.listing, order, set);
     let word = starts::dependent(r, set, ones);
-    tally::compared(t, tally::NEEDED_DRAWN, word | own.shares == own.shares)
+    tally::compared(t, tally::NEEDED_DRAWN, word | n.shares == n.shares)
 }
 
 fn compare_all_drawn(
@@ -191,10 +192,10 @@ fn compare_all_drawn(
     u
 }
 
-// Of a routine of at most 256 starts, with some public bits.
+// Of a small routine, with some public bits.
 pub fn compare_draws(t: [u64; 104], g: Listing, seed: u64, count: u64) -> [u64; 104] {
     let r = starts::starts_of(g);
-    if (r.starts == 0) | (256 < r.starts) {
+    if !starts::can_draw(r) {
         return t;
     }
     let mut ones = [0u64; 512];

@@ -167,6 +167,11 @@ pub fn is_even(s: usize, set: ProbeSet, ones: &[u64; 512], chosen: &[u64; 512]) 
 
 // ---- drawings
 
+// Whether the drawings of a routine can be counted: it has at most 256 starts, so that the numbers below fit.
+pub fn can_draw(r: Small) -> bool {
+    (r.starts != 0) & (r.starts <= 256)
+}
+
 // The place of what the set shows from start x: `width` times the pattern, read as a number.
 fn place_of(set: ProbeSet, width: usize, x: usize, ones: &[u64; 512]) -> usize {
     let mut place: usize = 0;
@@ -185,7 +190,8 @@ fn place_of(set: ProbeSet, width: usize, x: usize, ones: &[u64; 512]) -> usize {
 }
 
 // For each share word, with how many of the drawings the set shows each pattern, one number beside the other in a word: a place is a bit
-// wider than the randoms are many, and as a set judged has fewer wires than a secret shares, all places fit where there are at most 256 starts.
+// wider than the randoms are many, and a set that is judged has fewer wires than a secret has shares. So of m randoms and k wires there are 2^k places
+// of m + 1 bits, where m + k + 1 is at most 8: 64 bits.
 fn draws(r: Small, set: ProbeSet, ones: &[u64; 512]) -> [u64; 512] {
     let width = std::num::wrapping_add_usize(r.randoms, 1);
     let starts = r.starts;

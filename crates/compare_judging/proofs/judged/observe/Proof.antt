@@ -13,8 +13,8 @@ abbrev μ-loop : tie.MeasureT-loop
 starts-of-requires : tie.Need-starts-of-requires Inv-loop μ-loop
 starts-of-requires c κs = search needs
 
-most-starts-requires : tie.Need-most-starts-requires Inv-loop μ-loop
-most-starts-requires c κs = search needs
+is-small-requires : tie.Need-is-small-requires Inv-loop μ-loop
+is-small-requires c κs = search needs
 
 returns : tie.Need-returns Inv-loop μ-loop
 returns c = search needs
@@ -50,7 +50,7 @@ observe-spec =
     Inv-loop
     μ-loop
     starts-of-requires
-    most-starts-requires
+    is-small-requires
     returns
     count-kind-requires
     shl-values
