@@ -39,8 +39,9 @@ static int serves(const unsigned char *probe, const unsigned char *leaf, const u
 static int pad_lowest(const unsigned char *probe, unsigned char *leaf, const unsigned char *live)
 {
     for (int w = 0; w < count_of_wires; w++) {
-        if (!live[w] || leaf[w] || wires[w].kind != 'x' || wires[w].a == wires[w].b) continue;
-        if (serves(probe, leaf, live, w, wires[w].a) || serves(probe, leaf, live, w, wires[w].b)) {
+        if (!live[w] || leaf[w]) continue;
+        int by_b = wires[w].kind == 'x' && wires[w].a != wires[w].b, by_a = by_b || wires[w].kind == 'n';
+        if ((by_a && serves(probe, leaf, live, w, wires[w].a)) || (by_b && serves(probe, leaf, live, w, wires[w].b))) {
             leaf[w] = 1;
             return 1;
         }

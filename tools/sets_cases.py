@@ -50,6 +50,21 @@ def refresh_m(d):
     return lines + [f"out {w}" for w in sorted(c)]
 
 
+def inverted(lines):
+    """The routine with a `not` behind each random, which every later wire takes in the random's place."""
+    s, d = map(int, lines[0].split()[1:])
+    out, stands = [lines[0]], {str(w): w for w in range(s * d)}
+    emit = emitter(out, s * d)
+    for line in lines[1:]:
+        word, *numbers = line.split()
+        if word == "out":
+            out.append(f"out {stands[numbers[0]]}")
+            continue
+        w = emit(word, *(stands[v] for v in numbers[1:]))
+        stands[numbers[0]] = emit("not", w) if word == "rand" else w
+    return out
+
+
 FIGURE_4 = ["routine 1 4", "rand 4", "xor 5 0 4", "xor 6 3 4", "rand 7", "xor 8 1 7", "xor 9 6 7", "rand 10", "xor 11 2 10", "xor 12 9 10"]
 
 ROUTINES = [
@@ -65,6 +80,14 @@ ROUTINES = [
     ["routine 1 3", "rand 3", "xor 4 0 3", "xor 5 1 4"],
     ["routine 1 2", "rand 2", "rand 3", "xor 4 3 2", "xor 5 0 4"],
     ["routine 1 2", "rand 2", "and 3 0 2", "pub 4", "xor 5 0 4", "not 6 2", "xor 7 1 6"],
+    # inverted randoms: one, one with a second consumer, two that are opposites, one that is probed, one inverted twice, a padded wire; a share and a public
+    ["routine 1 2", "rand 2", "not 3 2", "xor 4 0 3"],
+    ["routine 1 2", "rand 2", "not 3 2", "xor 4 2 3", "xor 5 0 4", "xor 6 1 5"],
+    ["routine 1 3", "rand 3", "not 4 3", "xor 5 0 3", "xor 6 1 4"],
+    ["routine 1 3", "rand 3", "not 4 3", "xor 5 0 4"],
+    ["routine 1 2", "rand 2", "not 3 2", "not 4 3", "xor 5 0 4"],
+    ["routine 1 3", "rand 3", "xor 4 0 3", "not 5 4", "xor 6 1 5"],
+    ["routine 1 2", "not 2 0", "xor 3 1 2", "pub 4", "not 5 4", "xor 6 0 5"],
     ["routine 1 2", "out 0"],
     # eight shares: order 4 is judged, 5 is not
     ["routine 1 8", "rand 8", "xor 9 0 8"],
@@ -74,6 +97,9 @@ ROUTINES = [
     sec_mult(3),
     sec_mult(4),
     sec_mult(5),
+    inverted(EXAMPLE_A),
+    inverted(sec_mult(3)),
+    inverted(sec_mult(4)),
     refresh_m(3),
     refresh_m(4),
     refresh_m(5),
@@ -104,7 +130,7 @@ def steps_of(wires, probed):
         found = [
             (w, r)
             for w in inner
-            if wires[w][0] == b"xor" and wires[w][1] != wires[w][2]
+            if wires[w][0] == b"not" or wires[w][0] == b"xor" and wires[w][1] != wires[w][2]
             for r in sorted(operands(wires[w]))
             if r in leaves and r not in probed and all(u == w or r not in operands(wires[u]) for u in inner)
         ]

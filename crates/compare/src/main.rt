@@ -4,6 +4,7 @@ use compare_calls::texts;
 use compare_judging::judged;
 use compare_judging::sets;
 use compare_making::chance;
+use compare_making::inverting;
 use compare_making::making;
 use compare_making::spoiling;
 use compare_texts::spelling;
@@ -96,6 +97,17 @@ fn say_orders(t: [u64; 104]) {
     say_kind(t, b"sets of a plain pass, starts counted", tally::EVEN);
     say_kind(t, b"sets of a strong pass, drawings counted", tally::DRAWN);
     say_kind(t, b"sets, drawings counted", tally::NEEDED_DRAWN);
+    say_kind(
+        t,
+        b"of a plain pass that inverted randoms give",
+        tally::EVEN_INVERTED,
+    );
+    say_kind(
+        t,
+        b"of a strong pass that inverted randoms give",
+        tally::DRAWN_INVERTED,
+    );
+    say_kind(t, b"judgements with no not padded", tally::NOTS_KEPT);
     say_kind(t, b"orders above a plain judgement", tally::LOWER);
     say_kind(t, b"orders above a strong judgement", tally::LOWER_STRONG);
     say_kind(
@@ -110,6 +122,11 @@ fn say_answers(t: [u64; 104]) {
     say_count(t, b"plain judgements that are open:", tally::PLAIN_OPEN);
     say_count(t, b"strong judgements that pass:", tally::STRONG_PASS);
     say_count(t, b"strong judgements that are open:", tally::STRONG_OPEN);
+    say_count(
+        t,
+        b"judgements that pass by inverted randoms:",
+        tally::PASS_INVERTED,
+    );
     say_count(t, b"sets that are not open:", tally::SETS_CLOSED);
     say_count(t, b"sets that are open:", tally::SETS_OPEN);
     say_count(t, b"steps made:", tally::STEPS_MADE);
@@ -161,7 +178,7 @@ fn compare_spoiled(t: [u64; 104], g: Listing, seed: u64) -> [u64; 104] {
 }
 
 fn compare_small(t: [u64; 104], seed: u64) -> [u64; 104] {
-    let g = making::routine(chance::draw(seed, 8));
+    let g = inverting::routine(chance::draw(seed, 8));
     let u = compare_calls(t, g, seed, 10);
     let v = judged::compare_orders(u, g, seed);
     let w = sets::compare_draws(v, g, chance::draw(seed, 11), 20);
@@ -182,7 +199,7 @@ fn compare_all_small(t: [u64; 104]) -> [u64; 104] {
 
 // Routines up to the ceilings are judged at order 1 only; order 5 is refused also where D is above it.
 fn compare_large(t: [u64; 104], seed: u64) -> [u64; 104] {
-    let g = making::large(chance::draw(seed, 9));
+    let g = inverting::large(chance::draw(seed, 9));
     let u = compare_calls(t, g, seed, 4);
     let v = judged::compare_order(u, spoiling::spoiled(g, seed), 1);
     let w = judged::compare_order(v, g, 5);

@@ -49,6 +49,12 @@ pub const STRONG_PLAIN: usize = 22;
 
 pub const NEEDED_DRAWN: usize = 23;
 
+pub const NOTS_KEPT: usize = 24;
+
+pub const EVEN_INVERTED: usize = 25;
+
+pub const DRAWN_INVERTED: usize = 26;
+
 // Places 0 to 31: how many of a kind were compared. 32 to 63: how many of it differ. From 64 on: how often each refusal was given
 // (64: none). From 96 on: answers of each sort, where "not open" stands before "open".
 pub const DIFFER: usize = 32;
@@ -69,11 +75,15 @@ pub const STRONG_PASS: usize = 101;
 
 pub const STRONG_OPEN: usize = 102;
 
-// Where a judgement is counted: on values, over a list, and its passes.
+pub const PASS_INVERTED: usize = 103;
+
+// Where a judgement is counted: on values, over a list, its passes, and the sets of a pass, also of one that inverted randoms give.
 pub struct Places {
     pub values: usize,
     pub list: usize,
     pub pass: usize,
+    pub meant: usize,
+    pub inverted: usize,
 }
 
 pub fn places_of(which: Which) -> Places {
@@ -82,11 +92,15 @@ pub fn places_of(which: Which) -> Places {
             values: PLAIN,
             list: LENT_PLAIN,
             pass: PLAIN_PASS,
+            meant: EVEN,
+            inverted: EVEN_INVERTED,
         },
         Which::Strong => Places {
             values: STRONG,
             list: LENT_STRONG,
             pass: STRONG_PASS,
+            meant: DRAWN,
+            inverted: DRAWN_INVERTED,
         },
     }
 }
@@ -117,6 +131,15 @@ pub fn compared(t: [u64; 104], kind: usize, same: bool) -> [u64; 104] {
         return u;
     }
     more(u, std::num::wrapping_add_usize(kind, DIFFER), 1)
+}
+
+// What a kind gained from t to u, counted under another kind too.
+pub fn also(t: [u64; 104], u: [u64; 104], kind: usize, other: usize) -> [u64; 104] {
+    let differ = std::num::wrapping_add_usize(kind, DIFFER);
+    let gained = std::num::wrapping_sub_u64(at(u, kind), at(t, kind));
+    let worse = std::num::wrapping_sub_u64(at(u, differ), at(t, differ));
+    let v = more(u, other, gained);
+    more(v, std::num::wrapping_add_usize(other, DIFFER), worse)
 }
 
 pub fn refused(t: [u64; 104], number: u64) -> [u64; 104] {

@@ -143,6 +143,27 @@ fn compare_listed(
     tally::compared(t, places.list, same::same_judged(r, own))
 }
 
+fn has_nots(g: Listing) -> bool {
+    let ws = g.wires;
+    wires::count_kind(g.shape.n, ws, wires::NOT) != 0
+}
+
+// What is not open where no not is padded is not open where they are. A pass is held to what it means, and counted apart where padded nots give it.
+fn compare_kept(t: [u64; 104], g: Listing, which: Which, order: usize, hit: bool) -> [u64; 104] {
+    let kept = judging::judge(judging::with_nots_kept(g), which, order);
+    let u = tally::compared(t, tally::NOTS_KEPT, kept.hit | !hit);
+    if hit {
+        return u;
+    }
+    let v = observe(u, g, which, order);
+    if !kept.hit {
+        return v;
+    }
+    let places = tally::places_of(which);
+    let w = tally::more(v, tally::PASS_INVERTED, 1);
+    tally::also(u, w, places.meant, places.inverted)
+}
+
 fn compare_judgement(t: [u64; 104], g: Listing, which: Which, order: usize) -> [u64; 104] {
     let places = tally::places_of(which);
     let r = judge::judge(g, which, order);
@@ -154,6 +175,9 @@ fn compare_judgement(t: [u64; 104], g: Listing, which: Which, order: usize) -> [
         return v;
     }
     let w = tally::outcome(v, places.pass, own.hit);
+    if has_nots(g) {
+        return compare_kept(w, g, which, order, own.hit);
+    }
     if own.hit {
         return w;
     }

@@ -13,7 +13,7 @@ struct Bundle {
     wires: [u8; 8],
 }
 
-fn begun(s: usize, d: usize) -> Listing {
+pub fn begun(s: usize, d: usize) -> Listing {
     let n = wires::shares(s, d);
     let wires = splitting::share_wires(n, d);
     let shape = Shape { s, d, n };
@@ -27,7 +27,7 @@ pub fn with_wires(t: Listing, wires: [Wire; 128]) -> Listing {
 }
 
 // One wire more, of the kind of this number; none where 128 are there.
-fn pushed(t: Listing, c: u8, a: usize, b: usize) -> Listing {
+pub fn pushed(t: Listing, c: u8, a: usize, b: usize) -> Listing {
     let Shape { s, d, n } = t.shape;
     if 127 < n {
         return t;
@@ -275,7 +275,7 @@ fn altered_often(t: Listing, seed: u64, count: u64) -> Listing {
 
 // ---- outputs
 
-fn marked(t: Listing, w: usize) -> Listing {
+pub fn marked(t: Listing, w: usize) -> Listing {
     let ws = t.wires;
     let mut x = wires::at(ws, w);
     x.out = true;

@@ -2,6 +2,7 @@
 use crate::padding;
 use compare_lines::wires;
 use compare_texts::spelling;
+use data::Kind;
 use data::Listing;
 use data::ProbeSet;
 use data::Shape;
@@ -168,6 +169,28 @@ fn judge_sizes(c: Case, top: usize) -> Judgement {
         }
     }
     so_far
+}
+
+// The routine with no not that can be padded: an and of the operand with itself computes from the same wire, and no and is ever padded.
+// So the sets need what they need where a not is never padded.
+pub fn with_nots_kept(listing: Listing) -> Listing {
+    let shape = listing.shape;
+    let mut wires = listing.wires;
+    let mut w = 0;
+    while w < 128 {
+        let x = wires::at(wires, w);
+        if wires::code_at(wires, w) == wires::NOT {
+            let kept = Wire {
+                kind: Kind::And,
+                a: x.a,
+                b: x.a,
+                out: x.out,
+            };
+            wires[w] = kept;
+        }
+        w += 1;
+    }
+    Listing { shape, wires }
 }
 
 fn is_strong(which: Which) -> bool {

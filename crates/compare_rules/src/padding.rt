@@ -133,15 +133,29 @@ fn larger(a: usize, b: usize) -> usize {
     a
 }
 
+// The second operand: that of a not is its first one.
+fn second(code: u8, a: usize, b: usize) -> usize {
+    if code == wires::NOT {
+        return a;
+    }
+    b
+}
+
+// Whether the value turns with that of either operand: an xor's of two wires, a not's of its one.
+fn turns(code: u8, a: usize, b: usize) -> bool {
+    if code == wires::XOR {
+        return a != b;
+    }
+    code == wires::NOT
+}
+
 // The step at w, if w can be padded.
 fn pad_at(n: usize, ws: [Wire; 128], probe: Marks, leaf: Marks, alive: Marks, w: usize) -> Pad {
-    if (wires::code_at(ws, w) != wires::XOR) | marks::has(leaf, w) | !marks::has(alive, w) {
-        return no_pad();
-    }
+    let code = wires::code_at(ws, w);
     let x = wires::at(ws, w);
     let a = wires::wide(x.a);
-    let b = wires::wide(x.b);
-    if a == b {
+    let b = second(code, a, wires::wide(x.b));
+    if !turns(code, a, b) | marks::has(leaf, w) | !marks::has(alive, w) {
         return no_pad();
     }
     let first = smaller(a, b);
@@ -152,11 +166,11 @@ fn pad_at(n: usize, ws: [Wire; 128], probe: Marks, leaf: Marks, alive: Marks, w:
             r: first,
         };
     }
-    let second = larger(a, b);
+    let other = larger(a, b);
     Pad {
-        found: serves(n, ws, probe, leaf, alive, second),
+        found: serves(n, ws, probe, leaf, alive, other),
         w,
-        r: second,
+        r: other,
     }
 }
 

@@ -6,3 +6,4 @@ pub mod Tables
 pub mod Seen
 pub mod Spared
 pub mod Making
+pub mod Inverted

@@ -41,14 +41,14 @@ randCones R k = built (coneAt R (randBit R)) k
 
 -- ---- own randoms
 
--- from the bit of a random, or the own randoms of one operand that the other does not hold
+-- from the bit of a random, the own randoms of one operand that the other does not hold, or those of the one operand that there is
 unfoldable pub ownOf : Kind → ℕ → ℕ → ℕ → (ℕ → ℕ) → (ℕ → ℕ) → ℕ
 ownOf Share bit a b cone own = 0
 ownOf Rand bit a b cone own = bit
 ownOf Pub bit a b cone own = 0
 ownOf Xor bit a b cone own = cond (eqb a b) 0 (bitOr (minus (own a) (cone b)) (minus (own b) (cone a)))
 ownOf And bit a b cone own = 0
-ownOf Not bit a b cone own = 0
+ownOf Not bit a b cone own = own a
 
 unfoldable pub ownAt : Routine → (ℕ → ℕ) → (ℕ → ℕ) → ℕ → ℕ
 ownAt R cone own w = ownOf (wire R w .kind) (2 ^ randsBefore R w) (wire R w .a) (wire R w .b) cone own

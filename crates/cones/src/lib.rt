@@ -114,7 +114,7 @@ fn own_of(x: Wire, j: usize, cones: [u64; 128], own: [u64; 128]) -> u64
         Kind::Pub => 0,
         Kind::Xor => own_of_xor(a, b, cones, own),
         Kind::And => 0,
-        Kind::Not => 0,
+        Kind::Not => own[a],
     }
 }
 

@@ -6,9 +6,9 @@ use Prim.Native.Nat.{ℕ}
 use Rattle.document.specs.Routine.{Routine}
 use Rattle.document.specs.Running.{bit, bitValues, whole-running}
 use Rattle.data.specs.ProbeSets.{setOf}
-use Rattle.document.specs.Padding.{steps}
+use Rattle.document.specs.Padding.{steps, whole-rule}
 use Rattle.document.specs.Judgements.{plain, strong, passed, opened, judged, needing, whole-judgements}
-use Rattle.document.specs.Starts.{patternCount, drawCount, whole-starts}
+use Rattle.document.specs.Starts.{patternCount, drawCount, countAfter, whole-starts}
 use Rattle.data.specs.declared.Kind.the-variants.{Share, Rand, Pub, Xor, And, Not}
 use Rattle.data.specs.declared.Wire.{Wire}
 use Rattle.data.specs.declared.Outcome.the-variants.{Done}
@@ -67,6 +67,10 @@ exampleI = halves (xor 0 1 ∷ xor 2 0 ∷ [])
 -- 10.14: the routine of (j)
 abbrev pub exampleJ : Routine
 exampleJ = halves (rand ∷ xor 2 2 ∷ xor 0 3 ∷ [])
+
+-- 10.35: a random and its opposite, whose xor is always 1, in place of a mask
+abbrev pub opposites : Routine
+opposites = halves (rand ∷ not 2 ∷ xor 2 3 ∷ xor 0 4 ∷ xor 1 5 ∷ [])
 
 -- ---- the claims
 
@@ -127,13 +131,11 @@ cases =
 
 -- ---- the shortcuts
 
--- 10.20, 10.22, 10.23, 10.25, 10.26: routines that show a shortcut up
+-- 10.20, 10.22, 10.25, 10.26: routines that show a shortcut up
 abbrev pub shortcuts : List Claim
 shortcuts =
     -- 10.22: an `and` with a random is not padded
     needs (halves (rand ∷ and 0 2 ∷ [])) 1 (3 ∷ []) 1 false []
-    -- 10.23: nor is a `not` of a random
-    ∷ needs (halves (rand ∷ not 2 ∷ xor 0 3 ∷ [])) 1 (4 ∷ []) 1 false []
     -- 10.20: a padded wire that is probed does not serve as r
     ∷ needs (thirds (rand ∷ xor 0 3 ∷ xor 1 4 ∷ [])) 2 (4 ∷ 5 ∷ []) 2 false (step 4 3 ∷ [])
     -- 10.25: one sweep upwards is not enough
@@ -145,7 +147,39 @@ shortcuts =
 -- they all hold
 pub no-shortcut : Hold shortcuts
 unfolding whole-judgements
-no-shortcut = ((refl, refl), ((refl, refl), ((refl, refl), ((refl, refl), ((refl, refl), tt)))))
+no-shortcut = ((refl, refl), ((refl, refl), ((refl, refl), ((refl, refl), tt))))
+
+-- ---- inverted randoms
+
+-- 10.23, 10.34 to 10.40: randoms and padded wires that are inverted, and what must not be taken for them
+abbrev pub inversions : List Claim
+inversions =
+    -- 10.34: an inverted random is still a random
+    needs (halves (rand ∷ not 2 ∷ xor 0 3 ∷ [])) 1 (4 ∷ []) 0 false (step 3 2 ∷ step 4 3 ∷ [])
+    -- 10.23: not where the random has another live consumer; wire 4 is always 1
+    ∷ needs (halves (rand ∷ not 2 ∷ xor 2 3 ∷ xor 0 4 ∷ [])) 1 (5 ∷ []) 1 false []
+    -- 10.35: so that wire 6, which shows the secret, is open
+    ∷ judges opposites 1 (opened 7 (6 ∷ []))
+    -- 10.36: nor where both the random and its opposite mask
+    ∷ needs (thirds (rand ∷ not 3 ∷ xor 0 3 ∷ xor 1 4 ∷ [])) 2 (5 ∷ 6 ∷ []) 3 false []
+    -- 10.37: an inverted random that is probed is no pad, nor is the random under it
+    ∷ needs (thirds (rand ∷ not 3 ∷ xor 0 4 ∷ [])) 2 (4 ∷ 5 ∷ []) 1 false (step 4 3 ∷ [])
+    ∷ needs (thirds (rand ∷ not 3 ∷ xor 0 4 ∷ [])) 2 (3 ∷ 5 ∷ []) 1 false []
+    -- 10.38: one that is inverted twice
+    ∷ needs (halves (rand ∷ not 2 ∷ not 3 ∷ xor 0 4 ∷ [])) 1 (5 ∷ []) 0 false (step 3 2 ∷ step 4 3 ∷ step 5 4 ∷ [])
+    -- 10.39: a padded wire that is inverted, and one that is probed besides
+    ∷ needs (thirds (rand ∷ xor 0 3 ∷ not 4 ∷ xor 1 5 ∷ [])) 2 (6 ∷ []) 0 false (step 4 3 ∷ step 5 4 ∷ step 6 5 ∷ [])
+    ∷ needs (thirds (rand ∷ xor 0 3 ∷ not 4 ∷ xor 1 5 ∷ [])) 2 (4 ∷ 6 ∷ []) 2 false (step 4 3 ∷ [])
+    -- 10.40: the opposite of a share or of a public is no pad
+    ∷ needs (halves (not 0 ∷ xor 1 2 ∷ [])) 1 (3 ∷ []) 3 true []
+    ∷ needs (halves (public ∷ not 2 ∷ xor 0 3 ∷ [])) 1 (4 ∷ []) 1 false []
+    ∷ []
+
+-- they all hold
+pub inverted : Hold inversions
+unfolding whole-judgements
+inverted =
+    ((refl, refl), ((refl, refl), (refl, ((refl, refl), ((refl, refl), ((refl, refl), ((refl, refl), ((refl, refl), ((refl, refl), ((refl, refl), ((refl, refl), tt)))))))))))
 
 -- ---- Example A's lines
 
@@ -205,3 +239,20 @@ pub draws :
     × (drawCount bit exampleA [] (5 ∷ 7 ∷ []) (0 ∷ 0 ∷ []) (1 ∷ 1 ∷ 1 ∷ []) ≡ 1)
 unfolding whole-starts
 draws = (refl, refl, refl, refl, refl)
+
+-- ---- steps and counts
+
+-- 10.41: of the two drawings of `routine 1 2`, `rand 2`, `not 3 2`, `xor 4 0 3`, with share bits 0, 0, wire 4 shows 1 in one, before and after each step
+pub kept :
+    (drawCount bit (halves (rand ∷ not 2 ∷ xor 0 3 ∷ [])) [] (4 ∷ []) (1 ∷ []) (0 ∷ 0 ∷ []) ≡ 1)
+    × (countAfter bit (halves (rand ∷ not 2 ∷ xor 0 3 ∷ [])) [] [] (4 ∷ []) (1 ∷ []) (0 ∷ 0 ∷ []) ≡ 1)
+    × (countAfter bit (halves (rand ∷ not 2 ∷ xor 0 3 ∷ [])) (step 3 2 ∷ []) [] (4 ∷ []) (1 ∷ []) (0 ∷ 0 ∷ []) ≡ 1)
+    × (countAfter bit (halves (rand ∷ not 2 ∷ xor 0 3 ∷ [])) (step 3 2 ∷ step 4 3 ∷ []) [] (4 ∷ []) (1 ∷ []) (0 ∷ 0 ∷ []) ≡ 1)
+    -- 10.35: a step that is not allowed need not keep it; wire 4 there is always 1, and would be always 0
+    × (countAfter bit opposites [] [] (4 ∷ []) (1 ∷ []) (0 ∷ 0 ∷ []) ≡ 2)
+    × (countAfter bit opposites (step 3 2 ∷ []) [] (4 ∷ []) (1 ∷ []) (0 ∷ 0 ∷ []) ≡ 0)
+    -- 10.35: wire 6 there shows 1 from each of the four starts of secret 0 and from none of secret 1
+    × (patternCount bit opposites [] (6 ∷ []) (1 ∷ []) (0 ∷ []) ≡ 4)
+    × (patternCount bit opposites [] (6 ∷ []) (1 ∷ []) (1 ∷ []) ≡ 0)
+unfolding whole-rule whole-starts
+kept = (refl, refl, refl, refl, refl, refl, refl, refl)

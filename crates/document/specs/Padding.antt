@@ -41,14 +41,14 @@ liveDown R leaf (suc u) m = liveDown R leaf u (cond (at m u && not (at leaf u)) 
 unfoldable pub live : Routine → Marks → Marks → Marks
 live R probe leaf = liveDown R leaf (size R) probe
 
--- 3.10, 3.13, 3.17: only an `xor` of two different wires has operands that it can be padded by; the smaller one comes first
+-- 3.10, 3.13, 3.17: an `xor` of two different wires has both of them to be padded by, the smaller one first; a `not` has its operand; no other wire has any
 unfoldable pub padsOf : Kind → ℕ → ℕ → List ℕ
 padsOf Share a b = []
 padsOf Rand a b = []
 padsOf Pub a b = []
 padsOf Xor a b = cond (eqb a b) [] (min a b ∷ max a b ∷ [])
 padsOf And a b = []
-padsOf Not a b = []
+padsOf Not a b = a ∷ []
 
 -- 3.10: what wire w can be padded by, as far as its record goes
 unfoldable pub pads : Routine → ℕ → List ℕ

@@ -1,13 +1,15 @@
 -- Starts, and how many of them show a pattern (section 9 of docs/SPECIFICATION.md).
 use mathlib.Core.Path.{_≡_}
-use mathlib.Core.Bool.{Bool, true}
+use mathlib.Core.Bool.{Bool, true, cond}
 use mathlib.Core.List.{List, [], _∷_, map, flatMap}
 use Prim.Native.Nat.{ℕ, zero, suc, _+_, _*_, _≤_, _<_}
 use lib.Dec.{eqb, ltb}
 use lib.ListN.{length, getD}
-use Rattle.data.specs.Basics.{tally, all, each, same, keep, upTo}
+use Rattle.data.specs.Basics.{tally, all, each, same, keep, upTo, at}
 use Rattle.document.specs.Routine.{Routine, size, randsBefore}
-use Rattle.document.specs.Running.{Value, running, whole-running}
+use Rattle.document.specs.Running.{Value, valueAt, running, whole-running}
+use Rattle.document.specs.Padding.{firstLeaves, leavesAfter}
+use Rattle.data.specs.declared.Step.{Step}
 
 -- every list of m values
 unfoldable pub allWords : Value → ℕ → List (List ℕ)
@@ -55,12 +57,43 @@ unfoldable pub drawCount : Value → Routine → List ℕ → List ℕ → List 
 drawCount K R publics ps pattern shares =
     length (keep (λ ρ. same (observed K R publics ps (record { shares = shares; randoms = ρ })) pattern) (drawings K R))
 
+-- the function with another value at one place
+unfoldable pub upd : {A : Type 0} → (ℕ → A) → ℕ → A → ℕ → A
+upd f k v i = cond (eqb i k) v (f i)
+
+-- 9.35: which draw each leaf has: a step (w, r) hands that of r to w
+abbrev pub drawsAfter : List Step → (ℕ → ℕ) → ℕ → ℕ
+drawsAfter [] draw = draw
+drawsAfter (s ∷ ss) draw = drawsAfter ss (upd draw (s .w) (draw (s .r)))
+
+-- 9.36: the value of a wire when each leaf shows the draw that it has and every other wire what it gives, where at most k wires are computed from one another
+unfoldable pub valueWithin : Value → Routine → (ℕ → Bool) → (ℕ → ℕ) → List ℕ → List ℕ → List ℕ → ℕ → ℕ → ℕ
+valueWithin K R leaf draw shares randoms publics zero w = 0
+valueWithin K R leaf draw shares randoms publics (suc k) w =
+    cond (leaf w) (getD randoms (draw w) 0) (valueAt K R shares [] publics (valueWithin K R leaf draw shares randoms publics k) w)
+
+-- 9.36: operands being earlier wires, wire w is computed from w others at most
+unfoldable pub leafValue : Value → Routine → (ℕ → Bool) → (ℕ → ℕ) → List ℕ → List ℕ → List ℕ → ℕ → ℕ
+leafValue K R leaf draw shares randoms publics w = valueWithin K R leaf draw shares randoms publics (suc w) w
+
+-- 9.35, 9.36: with these share bits, how often the randoms give just this pattern after the steps; at the outset random j has draw j
+unfoldable pub countAfter : Value → Routine → List Step → List ℕ → List ℕ → List ℕ → List ℕ → ℕ
+countAfter K R ss publics ps pattern shares =
+    let leaf = at (leavesAfter ss (firstLeaves R)) in
+    let draw = drawsAfter ss (randsBefore R) in
+    length (keep (λ ρ. same (map (leafValue K R leaf draw shares ρ publics) ps) pattern) (drawings K R))
+
 -- the definitions above, to unfold at once where a proof computes
 unfoldable pub whole-starts : Unit {0}
-unfolding whole-running flatMap allWords xorOf splits starts observed patternCount drawCount
+unfolding whole-running flatMap allWords xorOf splits starts observed patternCount drawCount upd valueWithin leafValue countAfter
 whole-starts = tt
 
 -- ---- words of the statements
+
+-- 9.34: the numbers below b go to numbers below b, no two to the same one
+pub record OneToOne (b : ℕ) (f : ℕ → ℕ) : Type 0 where
+  pub stays : (v : ℕ) → v < b → f v < b
+  pub apart : (u v : ℕ) → u < b → v < b → f u ≡ f v → u ≡ v
 
 -- 9.2, 9.3: s is a start of this choice of the secrets
 pub record IsStart (K : Value) (R : Routine) (secrets : List ℕ) (s : Start) : Type 0 where

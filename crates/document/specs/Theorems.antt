@@ -2,7 +2,7 @@
 use mathlib.Core.Path.{_≡_, refl, sym, ap, _∙_, subst}
 use mathlib.Core.Bool.{true, false}
 use mathlib.Core.Logic.{_↔_}
-use mathlib.Core.List.{List}
+use mathlib.Core.List.{List, [], _∷_, _++_}
 use Prim.Native.Nat.{ℕ, _+_, _*_, _-_, _^_, _≤_, _<_}
 use native.Mathlib.Omega.{arith}
 use lib.ListN.{length, take}
@@ -10,18 +10,19 @@ use lib.Dec.{ltb}
 use Rattle.data.specs.Basics.{at, elem, each, Among, Once}
 use Rattle.document.specs.Routine.{Routine, size, randsBefore, wellFormed, routineOf, recordsFit}
 use Rattle.document.specs.Reading.{reading, routineIn}
-use Rattle.document.specs.Running.{bit}
+use Rattle.document.specs.Running.{bit, valueAt}
 use Rattle.data.specs.ProbeSets.{setOf, WireSet}
-use Rattle.document.specs.Padding.{probed, firstLeaves, live, steps, leavesAfter, lastLeaves, liveAtEnd, Allowed, Stuck, RuleRun}
+use Rattle.document.specs.Padding.{probed, firstLeaves, live, pads, steps, leavesAfter, lastLeaves, liveAtEnd, Allowed, Stuck, RuleRun}
 use Rattle.document.specs.Judgements.{Judgement, plain, inner, strong, judgementOf, isOpen, setsInOrder, setsJudged, opened, orderFits, judgedNot, judged}
 use Rattle.document.specs.Judgements.{Ordered, NoneOpen, FirstOpen}
-use Rattle.document.specs.Starts.{drawings, Start, starts, patternCount, Small, IsStart, FixDraws, FewFixDraws}
+use Rattle.document.specs.Starts.{drawings, Start, starts, patternCount, drawCount, upd, countAfter, OneToOne, Small, IsStart, FixDraws, FewFixDraws}
 use Rattle.document.specs.Worth.{KeepsSecrets, PassesPlain, PassesStrong}
 use Rattle.document.specs.Lent.{lentJudged}
 use Rattle.document.specs.Desk.{deskPrints, passLine, HasLine}
-use Rattle.document.specs.Examples.{Hold, claims, cases, shortcuts, no-shortcut}
+use Rattle.document.specs.Examples.{Hold, claims, cases, shortcuts, no-shortcut, inversions, inverted}
 use Rattle.data.specs.Laws.Tests.{and-i, cond-true, cond-false, elem→, elem←}
 use Rattle.document.specs.Laws.Values.{bit-lawful}
+use Rattle.document.specs.Laws.Values as Values
 use Rattle.document.specs.Laws.Sound.{sound}
 use Rattle.document.specs.Laws.Needed.{asc-low, watch-same, needed-mono, lower}
 use Rattle.document.specs.Laws.Steps.{run-allowed, run-ends}
@@ -32,6 +33,7 @@ use Rattle.document.specs.Laws.Judging.{pass-exactly, open-has, open-is,
 use Rattle.document.specs.Laws.Judging.{lent-passed}
 use Rattle.document.specs.Laws.Strong.{strong-plain, strong-lower}
 use Rattle.document.specs.Laws.Starts as Starts
+use Rattle.document.specs.Laws.Observing as Observing
 use Rattle.document.specs.Laws.Secrecy as Secrecy
 use Rattle.document.specs.Laws.Draws as Draws
 use Rattle.document.specs.Laws.Printed.{cut-same}
@@ -51,9 +53,13 @@ use Rattle.data.specs.declared.Judged.{Judged}
 pub examples : Hold claims
 examples = cases
 
--- 10.20, 10.22, 10.23, 10.25, 10.26: the shortcuts are not taken
+-- 10.20, 10.22, 10.25, 10.26: the shortcuts are not taken
 pub no-shortcuts : Hold shortcuts
 no-shortcuts = no-shortcut
+
+-- 10.23, 10.34 to 10.40: an inverted random, and what is no such thing
+pub inverted-randoms : Hold inversions
+inverted-randoms = inverted
 
 -- ---- demand 2: the padding rule
 
@@ -203,9 +209,31 @@ pub printed-pass-keeps : (text : List ℕ) (t c : ℕ) → HasLine (passLine t c
     → (reading text .outcome ≡ Done) × PassesPlain (routineIn (reading text .listing)) t c
 printed-pass-keeps text t c h = let p = printed-pass t c text h in (p .0, pass-worth (routineIn (reading text .listing)) t c (p .1))
 
+-- ---- what a step promises
+
+-- 9.34: whatever w is, if its record lets it be padded by r: for any values of the other wires, its value is a one-to-one function of that of r
+pub pad-one-to-one : (R : Routine) (w r : ℕ) → elem r (pads R w) ≡ true
+    → (shares randoms publics : List ℕ) (values : ℕ → ℕ) → ((v : ℕ) → values v < 2)
+    → OneToOne 2 (λ v. valueAt bit R shares randoms publics (upd values r v) w)
+pad-one-to-one R w r m shares randoms publics values h =
+    Values.pad-one-to-one bit bit-lawful R shares randoms publics w r (elem→ r (pads R w) m) values h
+
 -- ---- how often the randoms give a pattern
 
 module _ (R : Routine) (good : wellFormed R ≡ true) (ps : List ℕ) (low : (v : ℕ) → elem v ps ≡ true → v < size R) where
+  -- 9.37: whatever wires are observed, an allowed step keeps how often each pattern comes
+  pub step-keeps-counts : (ss : List Step) (s : Step) → Allowed R (probed ps) (firstLeaves R) (ss ++ (s ∷ []))
+      → (publics : List ℕ) → Small 2 publics → (pattern shares : List ℕ) → Small 2 shares
+      → countAfter bit R (ss ++ (s ∷ [])) publics ps pattern shares ≡ countAfter bit R ss publics ps pattern shares
+  step-keeps-counts = Draws.step-keeps bit bit-lawful R (sound R good) ps (λ v m. low v (elem← v ps m))
+
+  -- 9.37: so after any allowed steps each comes as often as the randoms give it
+  pub steps-keep-counts : (ss : List Step) → Allowed R (probed ps) (firstLeaves R) ss
+      → (publics : List ℕ) → Small 2 publics → (pattern shares : List ℕ) → Small 2 shares
+      → countAfter bit R ss publics ps pattern shares ≡ drawCount bit R publics ps pattern shares
+  steps-keep-counts ss a publics sy pattern shares sx =
+      Observing.count-kept bit bit-lawful R (sound R good) publics ps (λ v m. low v (elem← v ps m)) pattern ss a sy shares sx
+
   -- 9.29: whatever wires are observed, and after any allowed steps: the shares that are still live and the publics fix it
   pub live-fix : (ss : List Step) → Allowed R (probed ps) (firstLeaves R) ss
       → FixDraws bit R (at (live R (probed ps) (leavesAfter ss (firstLeaves R)))) ps

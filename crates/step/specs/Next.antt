@@ -1,13 +1,11 @@
 -- What a search for the next step goes by: the counts of consumers.
-use mathlib.Core.Bool.{Bool, true, false, not, _&&_}
+use mathlib.Core.Bool.{Bool, not, _&&_}
 use mathlib.Core.List.{List}
 use mathlib.Core.Option.{Option, none, some}
 use Prim.Native.Nat.{ℕ}
 use lib.Dec.{eqb}
 use lib.ListN.{getD}
 use Rattle.data.specs.Basics.{Marks, at}
-use Rattle.data.specs.declared.Kind.{Kind}
-use Rattle.data.specs.declared.Kind.the-variants.{Share, Rand, Pub, Xor, And, Not}
 use Rattle.data.specs.declared.Wire.{Wire}
 use Rattle.data.specs.declared.Step.{Step}
 use Rattle.step.specs.declared.Next.{Next}
@@ -28,11 +26,3 @@ servesBy probe leaf counts r = at leaf r && not (at probe r) && eqb (getD counts
 pub record SearchFits (n : ℕ) (ws : List Wire) (leaf alive : Marks) (counts : List ℕ) : Type 0 where
   pub good : Wired n ws
   pub told : Consumers n ws leaf alive 0 counts
-
-abbrev pub isXor : Kind → Bool
-isXor Share = false
-isXor Rand = false
-isXor Pub = false
-isXor Xor = true
-isXor And = false
-isXor Not = false

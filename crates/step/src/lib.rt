@@ -4,12 +4,13 @@ use data::Step;
 use data::Wire;
 ghost use mathlib.Core.Path.{_≡_};
 ghost use mathlib.Core.Bool.{cond};
+ghost use mathlib.Core.List.{[], _∷_};
 ghost use mathlib.Core.Option.{none};
 ghost use Prim.Native.Nat.{_<_, max};
 ghost use Rattle.document.specs.Padding.{padsOf, padsBy, firstPad, lowestPad, nextStep};
 ghost use Rattle.data.specs.declared.Kind.the-variants.{Xor};
 ghost use Rattle.marks.specs.Passes.{wired, Wired, Low};
-ghost use Rattle.step.specs.Next.{stepIn, isXor, servesBy, SearchFits};
+ghost use Rattle.step.specs.Next.{stepIn, servesBy, SearchFits};
 
 // What a search for the next step found.
 pub enum Next {
@@ -29,6 +30,21 @@ fn can_serve(r: usize, probe: [bool; 128], leaf: [bool; 128], counts: [u8; 128])
     ensures { λ q. ⌜ q ≡ servesBy probe leaf counts r ⌝ }
 {
     leaf[r] & !probe[r] & (counts[r] == 1)
+}
+
+// The step of w by r, if r can serve: all there is for a not, and the second choice of an xor.
+fn pad_by_one(w: usize, r: usize, probe: [bool; 128], leaf: [bool; 128], counts: [u8; 128]) -> Next
+    requires { ⌜ (w < 128) × (r < 128) ⌝ }
+    ensures { λ q. ⌜ stepIn q ≡ firstPad (servesBy probe leaf counts) w (r ∷ []) none ⌝ }
+{
+    if can_serve(r, probe, leaf, counts) {
+        let step = Step {
+            w: w as u8,
+            r: r as u8,
+        };
+        return Next::Pad(step);
+    }
+    Next::End
 }
 
 // The step of an xor with these operands: by the lower one, or else by the higher one.
@@ -55,27 +71,7 @@ fn pad_by_two(
         };
         return Next::Pad(step);
     }
-    if can_serve(high, probe, leaf, counts) {
-        let step = Step {
-            w: w as u8,
-            r: high as u8,
-        };
-        return Next::Pad(step);
-    }
-    Next::End
-}
-
-fn is_xor(k: Kind) -> bool
-    ensures { λ r. ⌜ r ≡ isXor k ⌝ }
-{
-    match k {
-        Kind::Share => false,
-        Kind::Rand => false,
-        Kind::Pub => false,
-        Kind::Xor => true,
-        Kind::And => false,
-        Kind::Not => false,
-    }
+    pad_by_one(w, high, probe, leaf, counts)
 }
 
 // The step of wire w, if its record and its operands allow one.
@@ -86,10 +82,14 @@ fn pad_by(w: usize, x: Wire, probe: [bool; 128], leaf: [bool; 128], counts: [u8;
     let a = x.a as usize;
     let b = x.b as usize;
     let k = x.kind;
-    if !is_xor(k) {
-        return Next::End;
+    match k {
+        Kind::Share => Next::End,
+        Kind::Rand => Next::End,
+        Kind::Pub => Next::End,
+        Kind::Xor => pad_by_two(w, a, b, probe, leaf, counts),
+        Kind::And => Next::End,
+        Kind::Not => pad_by_one(w, a, probe, leaf, counts),
     }
-    pad_by_two(w, a, b, probe, leaf, counts)
 }
 
 // The step of wire w if it is live and no leaf.

@@ -1,5 +1,5 @@
 -- `cones::own_of` meets its contract, arm by arm.
-use mathlib.Core.Path.{ap}
+use mathlib.Core.Path.{refl, ap}
 use borrow.Author.Needs.{needs}
 use Rattle.cones.specs.Tables.{ownOf}
 use Rattle.document.specs.Routine.{isRand}
@@ -36,6 +36,12 @@ enum-told-5 c = search needs
 enum-told-6 : tie.Need-enum-told-6
 enum-told-6 c = search needs
 
+mul-result : tie.Need-mul-result
+mul-result c = search needs
+
+array-read-result : tie.Need-array-read-result
+array-read-result c = search needs
+
 returns : tie.Need-returns
 unfolding ownOf
 returns c = search needs
@@ -58,7 +64,7 @@ returns-5 c = search needs
 
 returns-6 : tie.Need-returns-6
 unfolding ownOf
-returns-6 c = search needs
+returns-6 c = rw (c .enum-told6 .given .1) refl
 
 pub own-of-spec : {M : Type 1} → statement M
 own-of-spec =
@@ -74,6 +80,8 @@ own-of-spec =
     own-of-xor-requires
     enum-told-5
     enum-told-6
+    mul-result
+    array-read-result
     returns
     returns-2
     returns-3

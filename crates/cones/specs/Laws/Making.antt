@@ -91,7 +91,7 @@ own-same Rand a b bit c c′ e e′ g h = refl
 own-same Pub a b bit c c′ e e′ g h = refl
 own-same Xor a b bit c c′ e e′ g h = rw (g a (inl refl), g b (inr (inl refl)), h a (inl refl), h b (inr (inl refl))) refl
 own-same And a b bit c c′ e e′ g h = refl
-own-same Not a b bit c c′ e e′ g h = refl
+own-same Not a b bit c c′ e e′ g h = h a (inl refl)
 
 module _ (σ : Shape) (ws : List Wire) (fit : recordsFit σ ws ≡ true) (w : ℕ) (in-n : w < σ .n) where
   abbrev R : Routine

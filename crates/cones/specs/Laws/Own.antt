@@ -1,4 +1,4 @@
--- Own randoms: a random that reaches one probed wire only, by xors alone, pads that wire; so the set needs what it needs without the wire.
+-- Own randoms: a random that reaches one probed wire only, by xors and nots alone, pads that wire; so the set needs what it needs without the wire.
 use mathlib.Core.Path.{_≡_, refl, subst}
 use mathlib.Core.Bool.{true}
 use mathlib.Core.Logic.{_⊎_, inl, inr, _≢_, _↔_}

@@ -55,7 +55,7 @@ gather-has e (u ∷ vs) v j (inl q) i = has-or (e u) (gather e vs) j ∙ or-l (h
 gather-has e (u ∷ vs) v j (inr m) i = has-or (e u) (gather e vs) j ∙ or-r (has (e u) j) (has (gather e vs) j) (gather-has e vs v j m i)
 
 module _ (R : Routine) (ok : Earlier R) where
-  cone-reads : (bit : ℕ → ℕ) (e e′ : ℕ → ℕ) (w : ℕ) → ((v : ℕ) → v < w → e v ≡ e′ v) → coneAt R bit e w ≡ coneAt R bit e′ w
+  pub cone-reads : (bit : ℕ → ℕ) (e e′ : ℕ → ℕ) (w : ℕ) → ((v : ℕ) → v < w → e v ≡ e′ v) → coneAt R bit e w ≡ coneAt R bit e′ w
   unfolding coneAt
   cone-reads bit e e′ w h = ap (bitOr (bit w)) (gather-ext e e′ (operands R w) (λ v m. h v (ok w v m)))
 
@@ -96,9 +96,9 @@ module _ (R : Routine) (ok : Earlier R) (ends : Within R) where
   own-ext Pub a b bit cone e e′ h = refl
   own-ext Xor a b bit cone e e′ h = ap₂ (λ (x y : ℕ). cond (eqb a b) 0 (bitOr (minus x (cone b)) (minus y (cone a)))) (h a (inl refl)) (h b (inr (inl refl)))
   own-ext And a b bit cone e e′ h = refl
-  own-ext Not a b bit cone e e′ h = refl
+  own-ext Not a b bit cone e e′ h = h a (inl refl)
 
-  own-reads : (cone : ℕ → ℕ) (e e′ : ℕ → ℕ) (w : ℕ) → ((v : ℕ) → v < w → e v ≡ e′ v) → ownAt R cone e w ≡ ownAt R cone e′ w
+  pub own-reads : (cone : ℕ → ℕ) (e e′ : ℕ → ℕ) (w : ℕ) → ((v : ℕ) → v < w → e v ≡ e′ v) → ownAt R cone e w ≡ ownAt R cone e′ w
   unfolding ownAt operands
   own-reads cone e e′ w h = own-ext (wire R w .kind) (wire R w .a) (wire R w .b) (2 ^ randsBefore R w) cone e e′ (λ v m. h v (ok w v m))
 
@@ -114,6 +114,14 @@ module _ (R : Routine) (ok : Earlier R) (ends : Within R) where
   pads-xor w a b ek ea eb q =
       ap (λ (k : Kind). padsOf k (wire R w .a) (wire R w .b)) ek ∙ ap₂ (λ (x y : ℕ). padsOf Xor x y) ea eb
       ∙ ap (λ (c : Bool). cond c [] (min a b ∷ max a b ∷ [])) q
+
+  pub ops-not : (w a : ℕ) → wire R w .kind ≡ Not → wire R w .a ≡ a → operands R w ≡ a ∷ []
+  unfolding operands operandsOf
+  ops-not w a ek ea = ap (λ (k : Kind). operandsOf k (wire R w .a) (wire R w .b)) ek ∙ ap {B = List ℕ} (λ x. x ∷ []) ea
+
+  pads-not : (w a : ℕ) → wire R w .kind ≡ Not → wire R w .a ≡ a → pads R w ≡ a ∷ []
+  unfolding pads padsOf
+  pads-not w a ek ea = ap (λ (k : Kind). padsOf k (wire R w .a) (wire R w .b)) ek ∙ ap {B = List ℕ} (λ x. x ∷ []) ea
 
   -- an own random of one operand of an xor, that the other operand does not hold
   lifted : (w a b j : ℕ) → Mem a (pads R w) → ((v : ℕ) → Mem v (operands R w) → v ≢ a → v ≡ b) → b < size R → Owned R a j → has (cones b) j ≡ false
@@ -169,7 +177,14 @@ module _ (R : Routine) (ok : Earlier R) (ends : Within R) where
           lifted w x y j m other (omega arith) (ih x lx (and-l (has (own x) j) (not (has (cones y) j)) z))
           (not-t (has (cones y) j) (and-r (has (own x) j) (not (has (cones y) j)) z))
   owned-by w h And a b ek ea eb own j ih i = clash i (has-none j)
-  owned-by w h Not a b ek ea eb own j ih i = clash i (has-none j)
+  owned-by w h Not a b ek ea eb own j ih i =
+      let o = ih a (ok w a (subst (Mem a) (sym (ops-not w a ek ea)) (inl refl))) i in record {
+        rand = o .rand;
+        is-rand = o .is-rand;
+        place = o .place;
+        own = above (subst (Mem a) (sym (pads-not w a ek ea)) (inl refl)) (o .own)
+            (λ v m d _. elim (subst (Mem v) (ops-not w a ek ea) m) [ inl e ↦ d e | inr z ↦ z ]);
+      }
 
   -- a bit of a wire's own randoms is an own random
   pub owned : (w : ℕ) → w < size R → (j : ℕ) → has (getD (ownRands R (size R)) w 0) j ≡ true → Owned R w j

@@ -1,21 +1,26 @@
--- A step keeps the number of random words that give each observation; so the live shares and the publics fix these numbers.
+-- A step keeps the number of random words that give each observation, its wire being a one-to-one function of its pad (9.34); so do any allowed steps,
+-- and the live shares and the publics fix these numbers.
 use mathlib.Core.Path.{_≡_, refl, sym, ap, _∙_, subst, fun-ext}
 use mathlib.Core.Logic.{_≢_}
-use mathlib.Core.List.{List, []}
-use Prim.Native.Nat.{ℕ, _<_}
+use mathlib.Core.List.{List, [], _∷_}
+use Prim.Native.Nat.{ℕ, _≤_, _<_}
 use native.Mathlib.Omega.{arith}
-use lib.ListN.{length, getD, set}
+use lib.ListN.{length, getD, set, length-set}
 use lib.Seq.{getD-set-same, getD-set-other}
-use Rattle.document.specs.Routine.{Routine, wire, operands}
+use Rattle.data.specs.Basics.{Marks, at, mark}
+use Rattle.document.specs.Routine.{Routine, size, wire, operands}
 use Rattle.document.specs.Running.{Value, valueAt}
+use Rattle.document.specs.Padding.{stepped, leavesAfter, Allowed}
 use Rattle.data.specs.Laws.Tests.{clash, out-of, bool-cases, wire-cases, below, Mem}
-use Rattle.document.specs.Laws.Marks.{Set, In, Out, add, add-cases, add-in, add-self}
-use Rattle.document.specs.Laws.Rule.{Live, probed, operand, Step, Run, start, step}
-use Rattle.document.specs.Laws.Live.{net, pad-op-of, Earlier}
-use Rattle.document.specs.Laws.Sums.{upd, upd-same, upd-other, words, words-ext, slide}
-use Rattle.document.specs.Starts.{Small}
-use Rattle.document.specs.Laws.Values.{Lawful, inner-ext, inner-share, inner-perm, value, value-ok, value-leaf, value-inner}
+use Rattle.document.specs.Laws.Marks.{Set, In, Out, add, add-cases, add-in, add-self, set-add}
+use Rattle.document.specs.Laws.Rule.{Live, probed, operand, Step}
+use Rattle.document.specs.Laws.Live.{net, pad-op-of, Earlier, Within}
+use Rattle.document.specs.Laws.Steps.{step→, padded-below}
+use Rattle.document.specs.Laws.Sums.{upd-same, upd-other, words, words-ext, slide}
+use Rattle.document.specs.Starts.{upd, drawsAfter, leafValue, Small}
+use Rattle.document.specs.Laws.Values.{Lawful, inner-ext, inner-share, pad-one-to-one, value-ok, value-leaf, value-inner}
 use Rattle.data.specs.declared.Kind.the-variants.{Share}
+use Rattle.data.specs.declared.Step.{Step as Pair}
 
 -- the live leaves read slots of their own, below m
 pub record Slots (R : Routine) (P L : Set) (σ : ℕ → ℕ) (m : ℕ) : Type 0 where
@@ -26,7 +31,7 @@ pub record Slots (R : Routine) (P L : Set) (σ : ℕ → ℕ) (m : ℕ) : Type 0
 abbrev pub Reads : Set → ((ℕ → ℕ) → ℕ) → Type 0
 Reads P F = (e e′ : ℕ → ℕ) → ((w : ℕ) → In P w → e w ≡ e′ w) → F e ≡ F e′
 
--- ---- one step: w becomes a leaf that reads the slot of r
+-- ---- one step: w becomes a leaf that shows the draw of r
 
 module _ (K : Value) (law : Lawful K) (R : Routine) (ok : Earlier R) (P L : Set) (σ : ℕ → ℕ) (m : ℕ) (sl : Slots R P L σ m)
     (w r : ℕ) (st : Step (net R) P L w r) (x y : List ℕ) where
@@ -37,10 +42,10 @@ module _ (K : Value) (law : Lawful K) (R : Routine) (ok : Earlier R) (P L : Set)
   σ′ = upd σ w (σ r)
 
   abbrev val : List ℕ → ℕ → ℕ
-  val ρ = value K law R L σ x ρ y
+  val ρ = leafValue K R L σ x ρ y
 
   abbrev val′ : List ℕ → ℕ → ℕ
-  val′ ρ = value K law R L′ σ′ x ρ y
+  val′ ρ = leafValue K R L′ σ′ x ρ y
 
   r-live : Live (net R) P L r
   r-live = operand (st .alive) (st .inner) (pad-op-of R w r (st .pads))
@@ -116,12 +121,12 @@ module _ (K : Value) (law : Lawful K) (R : Routine) (ok : Earlier R) (P L : Set)
       ∙ sym (value-inner K law R ok L σ x ρ y u o))))
 
   pub one-step : Small (K .many) x → Small (K .many) y → (F : (ℕ → ℕ) → ℕ) → Reads P F
-      → words (K .many) m (λ ρ. F (value K law R L σ x ρ y)) ≡ words (K .many) m (λ ρ. F (value K law R (add L w) (upd σ w (σ r)) x ρ y))
+      → words (K .many) m (λ ρ. F (leafValue K R L σ x ρ y)) ≡ words (K .many) m (λ ρ. F (leafValue K R (add L w) (upd σ w (σ r)) x ρ y))
   unfolding φ π
   one-step sx sy F reads =
       words-ext (K .many) (law .pos) m (λ ρ. F (val ρ)) (λ ρ. F (val′ (φ ρ))) (λ ρ len _. reads (val ρ) (val′ (φ ρ)) (λ u p. sym (follow ρ len u (probed p))))
       ∙ slide (K .many) (law .pos) m (σ r) (sl .low r (st .leaf)) π π-quiet
-      (λ ρ sρ. inner-perm K law R x y w r (st .pads) (val ρ) (value-ok K law R ok L σ x ρ y sx sρ sy)) (λ ρ. F (val′ ρ))
+      (λ ρ sρ. pad-one-to-one K law R x [] y w r (st .pads) (val ρ) (value-ok K law R ok L σ x ρ y sx sρ sy)) (λ ρ. F (val′ ρ))
 
   pub slots-step : Slots R P (add L w) (upd σ w (σ r)) m
   slots-step = record {
@@ -141,44 +146,47 @@ module _ (K : Value) (law : Lawful K) (R : Routine) (ok : Earlier R) (P L : Set)
       in-before : (u : ℕ) → u ≢ w → In (add L w) u → In L u
       in-before u n i = add-cases L w u i (λ e. absurd (n e)) (λ j. j)
 
--- ---- any run of allowed steps
+-- ---- allowed steps, one after the other
 
-pub record Kept (K : Value) (law : Lawful K) (R : Routine) (P L₀ : Set) (σ₀ : ℕ → ℕ) (m : ℕ) (L : Set) : Type 0 where
-  pub slot : ℕ → ℕ
-  pub slots : Slots R P L slot m
-  pub counts : (x y : List ℕ) → Small (K .many) x → Small (K .many) y → (F : (ℕ → ℕ) → ℕ) → Reads P F
-      → words (K .many) m (λ ρ. F (value K law R L₀ σ₀ x ρ y)) ≡ words (K .many) m (λ ρ. F (value K law R L slot x ρ y))
+-- the leaves L with the draws σ give each observation as often as L₀ with σ₀ do
+abbrev pub AsOften : Value → Routine → Set → ℕ → Set → (ℕ → ℕ) → Set → (ℕ → ℕ) → Type 0
+AsOften K R P m L₀ σ₀ L σ =
+    (x y : List ℕ) → Small (K .many) x → Small (K .many) y → (F : (ℕ → ℕ) → ℕ) → Reads P F
+    → words (K .many) m (λ ρ. F (leafValue K R L₀ σ₀ x ρ y)) ≡ words (K .many) m (λ ρ. F (leafValue K R L σ x ρ y))
 
-pub kept : (K : Value) (law : Lawful K) (R : Routine) → Earlier R → (P L₀ : Set) (σ₀ : ℕ → ℕ) (m : ℕ) → Slots R P L₀ σ₀ m
-    → {L : Set} → Run (net R) P L₀ L → Kept K law R P L₀ σ₀ m L
-kept K law R ok P L₀ σ₀ m sl start = record { slot = σ₀; slots = sl; counts = λ x y _ _ F h. refl }
-kept K law R ok P L₀ σ₀ m sl (step {L = L} {w = w} {r = r} run st) =
-    let k = kept K law R ok P L₀ σ₀ m sl run in
-    record {
-      slot = upd (k .slot) w (k .slot r);
-      slots = slots-step K law R ok P L (k .slot) m (k .slots) w r st [] [];
-      counts = λ x y sx sy F h. k .counts x y sx sy F h ∙ one-step K law R ok P L (k .slot) m (k .slots) w r st x y sx sy F h;
-    }
+module _ (K : Value) (law : Lawful K) (R : Routine) (ok : Earlier R) (ends : Within R) (P : Marks) (long : size R ≤ length P) (m : ℕ) where
+  pub kept : (ss : List Pair) (L : Marks) (σ : ℕ → ℕ) → size R ≤ length L → Slots R (at P) (at L) σ m → Allowed R P L ss
+      → AsOften K R (at P) m (at L) σ (at (leavesAfter ss L)) (drawsAfter ss σ)
+  unfolding mark
+  kept [] L σ l sl a x y sx sy F h = refl
+  kept (s ∷ ss) L σ l sl a x y sx sy F h =
+      let st = step→ R ok ends P L long (s .w) (s .r) (a .0) in
+      let b = padded-below R ok ends P long L (s .w) (s .r) st in
+      let σ′ = upd σ (s .w) (σ (s .r)) in
+      let is : add (at L) (s .w) ≡ at (stepped L (s .w)) = sym (set-add L (s .w) (omega arith)) in
+      let after = slots-step K law R ok (at P) (at L) σ m sl (s .w) (s .r) st x y in
+      one-step K law R ok (at P) (at L) σ m sl (s .w) (s .r) st x y sx sy F h
+      ∙ ap (λ (M : Set). words (K .many) m (λ ρ. F (leafValue K R M σ′ x ρ y))) is
+      ∙ kept ss (stepped L (s .w)) σ′ (rw length-set l) (subst (λ (M : Set). Slots R (at P) M σ′ m) is after) (a .1) x y sx sy F h
 
 -- ---- the randoms' count of an observation is fixed by the live shares and the publics
 
-module _ (K : Value) (law : Lawful K) (R : Routine) (ok : Earlier R) (P L₀ : Set) (σ₀ : ℕ → ℕ) (m : ℕ)
-    (sl : Slots R P L₀ σ₀ m) (L : Set) (run : Run (net R) P L₀ L)
+module _ (K : Value) (law : Lawful K) (R : Routine) (ok : Earlier R) (P L₀ : Set) (σ₀ : ℕ → ℕ) (m : ℕ) (L : Set) (σ : ℕ → ℕ)
+    (as-often : AsOften K R P m L₀ σ₀ L σ)
     (x x′ y : List ℕ) (agree : (w : ℕ) → Live (net R) P L w → wire R w .kind ≡ Share → getD x w 0 ≡ getD x′ w 0) where
-  same-value : (σ : ℕ → ℕ) (ρ : List ℕ) (u : ℕ) → Live (net R) P L u → value K law R L σ x ρ y u ≡ value K law R L σ x′ ρ y u
-  same-value σ ρ = below (λ u. Live (net R) P L u → value K law R L σ x ρ y u ≡ value K law R L σ x′ ρ y u) (λ u ih l.
+  same-value : (ρ : List ℕ) (u : ℕ) → Live (net R) P L u → leafValue K R L σ x ρ y u ≡ leafValue K R L σ x′ ρ y u
+  same-value ρ = below (λ u. Live (net R) P L u → leafValue K R L σ x ρ y u ≡ leafValue K R L σ x′ ρ y u) (λ u ih l.
       bool-cases (L u)
       (λ i. value-leaf K law R ok L σ x ρ y u i ∙ sym (value-leaf K law R ok L σ x′ ρ y u i))
       (λ o. value-inner K law R ok L σ x ρ y u o
-      ∙ inner-ext K law R x y (value K law R L σ x ρ y) (value K law R L σ x′ ρ y) u (λ a q. ih a (ok u a q) (operand l o q))
-      ∙ inner-share K law R x x′ y (value K law R L σ x′ ρ y) u (agree u l)
+      ∙ inner-ext K law R x y (leafValue K R L σ x ρ y) (leafValue K R L σ x′ ρ y) u (λ a q. ih a (ok u a q) (operand l o q))
+      ∙ inner-share K law R x x′ y (leafValue K R L σ x′ ρ y) u (agree u l)
       ∙ sym (value-inner K law R ok L σ x′ ρ y u o)))
 
   pub fixed : Small (K .many) x → Small (K .many) x′ → Small (K .many) y → (F : (ℕ → ℕ) → ℕ) → Reads P F
-      → words (K .many) m (λ ρ. F (value K law R L₀ σ₀ x ρ y)) ≡ words (K .many) m (λ ρ. F (value K law R L₀ σ₀ x′ ρ y))
+      → words (K .many) m (λ ρ. F (leafValue K R L₀ σ₀ x ρ y)) ≡ words (K .many) m (λ ρ. F (leafValue K R L₀ σ₀ x′ ρ y))
   fixed sx sx′ sy F h =
-      let k = kept K law R ok P L₀ σ₀ m sl run in
-      k .counts x y sx sy F h
-      ∙ words-ext (K .many) (law .pos) m (λ ρ. F (value K law R L (k .slot) x ρ y)) (λ ρ. F (value K law R L (k .slot) x′ ρ y))
-      (λ ρ _ _. h (value K law R L (k .slot) x ρ y) (value K law R L (k .slot) x′ ρ y) (λ u p. same-value (k .slot) ρ u (probed p)))
-      ∙ sym (k .counts x′ y sx′ sy F h)
+      as-often x y sx sy F h
+      ∙ words-ext (K .many) (law .pos) m (λ ρ. F (leafValue K R L σ x ρ y)) (λ ρ. F (leafValue K R L σ x′ ρ y))
+      (λ ρ _ _. h (leafValue K R L σ x ρ y) (leafValue K R L σ x′ ρ y) (λ u p. same-value ρ u (probed p)))
+      ∙ sym (as-often x′ y sx′ sy F h)

@@ -34,7 +34,7 @@ pads-operands Xor a b r m = go (eqb a b) m
     go true k = absurd k
     go false k = lower k
 pads-operands And a b r m = absurd m
-pads-operands Not a b r m = absurd m
+pads-operands Not a b r m = m
 
 pub pad-op-of : (R : Routine) (w r : ℕ) → Mem r (pads R w) → Mem r (operands R w)
 unfolding pads operands

@@ -11,20 +11,23 @@ use lib.Seq.{getD-at}
 use Rattle.data.specs.Basics.{one, keep, upTo, same, at}
 use Rattle.document.specs.Routine.{Routine, size, wire, isRand, randsBefore, pubsBefore}
 use Rattle.document.specs.Running.{Value, gives, valueAt, firstValues, running}
-use Rattle.document.specs.Padding.{probed as probedMarks, firstLeaves, lastLeaves, liveAtEnd, neededOf}
-use Rattle.document.specs.Starts.{allWords, splits, Start, starts, observed, patternCount, drawCount, Small}
+use Rattle.document.specs.Padding.{probed as probedMarks, firstLeaves, steps, leavesAfter, lastLeaves, liveAtEnd, neededOf, Allowed}
+use Rattle.document.specs.Starts.{allWords, splits, Start, starts, observed, patternCount, drawCount, drawsAfter, leafValue, countAfter, Small}
 use Rattle.data.specs.Laws.Tests.{clash, bool-cases, wire-cases, tally-spare, Mem}
 use Rattle.document.specs.Laws.Marks.{Set}
 use Rattle.document.specs.Laws.Sums.{total, total-ext, words, words-ext}
-use Rattle.document.specs.Laws.Values.{Lawful, inner-ext, value, value-leaf, value-inner}
+use Rattle.document.specs.Laws.Values.{Lawful, inner-ext, value-leaf, value-inner}
 use Rattle.document.specs.Laws.Splitting.{splitsAt, splitsTo, startSum, secret-free}
-use Rattle.document.specs.Laws.Sound.{Sound, first-leaf→, first-leaf←, first-slots}
-use Rattle.document.specs.Laws.Rule.{Live, probed, operand, Run}
+use Rattle.document.specs.Laws.Sound.{Sound, first-leaf→, first-leaf←, first-length, first-slots}
+use Rattle.document.specs.Laws.Rule.{Live, probed, operand}
 use Rattle.document.specs.Laws.Live.{net}
-use Rattle.document.specs.Laws.Counting.{Reads, fixed}
-use Rattle.document.specs.Laws.Needed.{probed→, probed←, ended-at, needed-live, needed-tally}
+use Rattle.document.specs.Laws.Steps.{run-allowed}
+use Rattle.document.specs.Laws.Orders.{steps-run}
+use Rattle.document.specs.Laws.Counting.{Reads, AsOften, kept, fixed}
+use Rattle.document.specs.Laws.Needed.{probed-length, probed→, probed←, needed-live, needed-tally}
 use Rattle.data.specs.declared.Kind.{Kind}
 use Rattle.data.specs.declared.Kind.the-variants.{Share, Rand, Pub, Xor, And, Not}
+use Rattle.data.specs.declared.Step.{Step}
 
 -- ---- sums over lists
 
@@ -125,14 +128,14 @@ module _ (K : Value) (law : Lawful K) (R : Routine) (so : Sound R) where
 
   module _ (x ρ y : List ℕ) where
     val : ℕ → ℕ
-    val = value K law R leaves (randsBefore R) x ρ y
+    val = leafValue K R leaves (randsBefore R) x ρ y
 
-    first-length : (n : ℕ) → length (firstValues K R x ρ y n) ≡ n
+    values-length : (n : ℕ) → length (firstValues K R x ρ y n) ≡ n
     unfolding firstValues
-    first-length zero = refl
-    first-length (suc n) =
+    values-length zero = refl
+    values-length (suc n) =
         let vs = firstValues K R x ρ y n in
-        let l = first-length n in
+        let l = values-length n in
         let a = length-append vs (valueAt K R x ρ y (λ w. getD vs w 0) n ∷ []) in
         omega arith
 
@@ -153,12 +156,12 @@ module _ (K : Value) (law : Lawful K) (R : Routine) (so : Sound R) where
     first-is (suc n) w h =
         let vs = firstValues K R x ρ y n in
         let new = valueAt K R x ρ y (λ v. getD vs v 0) n in
-        let len : length vs ≡ n = first-length n in
+        let len : length vs ≡ n = values-length n in
         wire-cases w n
         (λ e. ap (λ (k : ℕ). getD (vs ++ (new ∷ [])) k 0) e ∙ getD-at vs new [] 0 n len ∙ newest n (λ v. getD vs v 0) (λ v l. first-is n v l) ∙ ap val (sym e))
         (λ e. List·getD-append vs (new ∷ []) 0 w (omega arith) ∙ first-is n w (omega arith))
 
-    pub running-is : (w : ℕ) → w < size R → getD (running K R x ρ y) w 0 ≡ value K law R (at (firstLeaves R)) (randsBefore R) x ρ y w
+    pub running-is : (w : ℕ) → w < size R → getD (running K R x ρ y) w 0 ≡ leafValue K R (at (firstLeaves R)) (randsBefore R) x ρ y w
     unfolding running val
     running-is w h = first-is (size R) w h
 
@@ -173,13 +176,13 @@ module _ (K : Value) (law : Lawful K) (R : Routine) (so : Sound R) where
   map-ext (p ∷ ps) e e′ h = ap₂ {C = List ℕ} (λ z zs. z ∷ zs) (h p (inl refl)) (map-ext ps e e′ (λ w m. h w (inr m)))
 
   module _ (y : List ℕ) (os : List ℕ) (low : (v : ℕ) → Mem v os → v < size R) (pattern : List ℕ) where
-    observed-is : (x ρ : List ℕ) → observed K R y os (record { shares = x; randoms = ρ }) ≡ map (value K law R (at (firstLeaves R)) (randsBefore R) x ρ y) os
+    observed-is : (x ρ : List ℕ) → observed K R y os (record { shares = x; randoms = ρ }) ≡ map (leafValue K R (at (firstLeaves R)) (randsBefore R) x ρ y) os
     unfolding observed
     observed-is x ρ = map-ext os _ _ (λ w m. running-is x ρ y w (low w m))
 
     -- how often the randoms give the pattern, as a sum over their words
     draws-are : (x : List ℕ) → drawCount K R y os pattern x
-        ≡ words (K .many) (randsBefore R (size R)) (λ ρ. shows os pattern (value K law R (at (firstLeaves R)) (randsBefore R) x ρ y))
+        ≡ words (K .many) (randsBefore R (size R)) (λ ρ. shows os pattern (leafValue K R (at (firstLeaves R)) (randsBefore R) x ρ y))
     unfolding drawCount shows
     draws-are x =
         kept-words K (randsBefore R (size R)) (λ ρ. same (observed K R y os (record { shares = x; randoms = ρ })) pattern)
@@ -206,14 +209,38 @@ module _ (K : Value) (law : Lawful K) (R : Routine) (so : Sound R) where
     shows-reads e e′ k = ap (λ (vs : List ℕ). one (same vs pattern))
         (map-ext os e e′ (λ w m. let f = so .few in let b = low w m in k w (probed← os w (omega arith) m)))
 
+    -- ---- allowed steps keep it
+
+    -- after any allowed steps the leaves, showing the draws that they have, give each observation as often as the randoms did at the outset
+    walked : (ss : List Step) → Allowed R (probedMarks os) (firstLeaves R) ss
+        → AsOften K R (at (probedMarks os)) (randsBefore R (size R)) (at (firstLeaves R)) (randsBefore R)
+        (at (leavesAfter ss (firstLeaves R))) (drawsAfter ss (randsBefore R))
+    walked ss =
+        let f = so .few in
+        let l = probed-length os in
+        let m = first-length R in
+        kept K law R (so .earlier) (so .within) (probedMarks os) (omega arith) (randsBefore R (size R)) ss (firstLeaves R) (randsBefore R) (omega arith)
+        (first-slots R (at (probedMarks os)))
+
+    pub count-kept : (ss : List Step) → Allowed R (probedMarks os) (firstLeaves R) ss → Small (K .many) y
+        → (x : List ℕ) → Small (K .many) x → countAfter K R ss y os pattern x ≡ drawCount K R y os pattern x
+    unfolding countAfter shows
+    count-kept ss a sy x sx =
+        kept-words K (randsBefore R (size R)) _ ∙ sym (walked ss a x y sx sy (shows os pattern) shows-reads) ∙ sym (draws-are x)
+
+    -- the rule's own steps are allowed
+    rule-walked : AsOften K R (at (probedMarks os)) (randsBefore R (size R)) (at (firstLeaves R)) (randsBefore R)
+        (at (lastLeaves R os)) (drawsAfter (steps R os) (randsBefore R))
+    unfolding lastLeaves
+    rule-walked = walked (steps R os) (run-allowed R (probedMarks os) (firstLeaves R) (steps R os) (steps-run R so os))
+
     pub spare-counts : ((i : ℕ) → i < R .S → neededOf R os i < R .D) → Small (K .many) y
         → (secrets secrets′ : List ℕ) → Small (K .many) secrets → Small (K .many) secrets′
         → patternCount K R y os pattern secrets ≡ patternCount K R y os pattern secrets′
     spare-counts few sy secrets secrets′ h h′ =
         count-is secrets
         ∙ secret-free K law R (so .earlier) (at (probedMarks os)) (at (firstLeaves R)) (randsBefore R) (randsBefore R (size R))
-        (first-slots R (at (probedMarks os)))
-        (at (lastLeaves R os)) (ended-at R so os .run) y sy (shows os pattern) shows-reads
+        (at (lastLeaves R os)) (drawsAfter (steps R os) (randsBefore R)) rule-walked y sy (shows os pattern) shows-reads
         (λ i i<S. let f = few i i<S in
         let is = needed-tally R so os i i<S in
         let s = tally-spare (R .D) (λ j. at (liveAtEnd R os) (i * R .D + j)) (omega arith) in
@@ -228,13 +255,14 @@ module _ (K : Value) (law : Lawful K) (R : Routine) (so : Sound R) where
     live-low L w (probed p) = low w (probed→ os w p)
     live-low L w (operand {u} l o q) = let a = so .earlier u w q in let b = so .within u w q in omega arith
 
-    -- after any run, the shares still live and the publics fix it
-    pub run-fixes : (L : Set) → Run (net R) (at (probedMarks os)) (at (firstLeaves R)) L → Small (K .many) y
+    -- after any allowed steps, the shares still live and the publics fix it
+    pub steps-fix : (ss : List Step) → Allowed R (probedMarks os) (firstLeaves R) ss → Small (K .many) y
         → (x x′ : List ℕ) → Small (K .many) x → Small (K .many) x′
-        → ((w : ℕ) → w < R .S * R .D → Live (net R) (at (probedMarks os)) L w → getD x w 0 ≡ getD x′ w 0)
+        → ((w : ℕ) → w < R .S * R .D → Live (net R) (at (probedMarks os)) (at (leavesAfter ss (firstLeaves R))) w → getD x w 0 ≡ getD x′ w 0)
         → drawCount K R y os pattern x ≡ drawCount K R y os pattern x′
-    run-fixes L run sy x x′ sx sx′ agree =
+    steps-fix ss a sy x x′ sx sx′ agree =
+        let L = at (leavesAfter ss (firstLeaves R)) in
         draws-are x
-        ∙ fixed K law R (so .earlier) (at (probedMarks os)) (at (firstLeaves R)) (randsBefore R) (randsBefore R (size R))
-        (first-slots R (at (probedMarks os))) L run x x′ y (λ w l s. agree w (so .places w (live-low L w l) s) l) sx sx′ sy (shows os pattern) shows-reads
+        ∙ fixed K law R (so .earlier) (at (probedMarks os)) (at (firstLeaves R)) (randsBefore R) (randsBefore R (size R)) L (drawsAfter ss (randsBefore R))
+        (walked ss a) x x′ y (λ w l s. agree w (so .places w (live-low L w l) s) l) sx sx′ sy (shows os pattern) shows-reads
         ∙ sym (draws-are x′)

@@ -53,7 +53,7 @@ module _ (R : Routine) (so : Sound R) (ps : List ℕ) where
   steps-run = rule-run R (so .earlier) (so .within) (probed ps) long (size R) (firstLeaves R) first-long (left-most R (firstLeaves R))
 
   -- 3.20: a list of allowed steps is a run
-  pub allowed-walk : (ss : List Pair) → Allowed R (probed ps) (firstLeaves R) ss
+  allowed-walk : (ss : List Pair) → Allowed R (probed ps) (firstLeaves R) ss
       → Run (net R) (at (probed ps)) (at (firstLeaves R)) (at (leavesAfter ss (firstLeaves R)))
   allowed-walk ss = allowed-run R (so .earlier) (so .within) (probed ps) long (firstLeaves R) ss (firstLeaves R) first-long start
 

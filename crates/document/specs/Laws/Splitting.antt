@@ -12,14 +12,14 @@ use lib.Seq.{getD-set-same, getD-set-other}
 use Rattle.data.specs.Basics.{all}
 use Rattle.document.specs.Routine.{Routine}
 use Rattle.document.specs.Running.{Value}
-use Rattle.document.specs.Starts.{xorOf, Small}
+use Rattle.document.specs.Starts.{xorOf, upd, leafValue, Small}
 use Rattle.data.specs.Laws.Tests.{clash, bool-cases, eqb-true, true-eqb, out-of, wire-cases, all-ext}
 use Rattle.document.specs.Laws.Marks.{Set}
-use Rattle.document.specs.Laws.Rule.{Live, Run}
+use Rattle.document.specs.Laws.Rule.{Live}
 use Rattle.document.specs.Laws.Live.{net, Earlier}
-use Rattle.document.specs.Laws.Sums.{upd, upd-same, upd-other, words, words-ext, slide, small-set}
-use Rattle.document.specs.Laws.Values.{Lawful, cancel, plus-perm-l, value}
-use Rattle.document.specs.Laws.Counting.{Slots, Reads, fixed}
+use Rattle.document.specs.Laws.Sums.{upd-same, upd-other, words, words-ext, slide, small-set}
+use Rattle.document.specs.Laws.Values.{Lawful, cancel, plus-perm-l}
+use Rattle.document.specs.Laws.Counting.{Reads, AsOften, fixed}
 
 -- the place of share j of secret i tells i
 place : (D i j k l : ℕ) → j < D → l < D → i * D + j ≡ k * D + l → i < k → ⊥
@@ -112,9 +112,9 @@ module _ (K : Value) (law : Lawful K) where
 
   unfoldable pub startSum : Routine → ℕ → Set → (ℕ → ℕ) → List ℕ → ((ℕ → ℕ) → ℕ) → (ℕ → ℕ) → ℕ
   startSum R m L₀ σ₀ y F sec =
-      words (K .many) (R .S * R .D) (λ x. cond (splitsTo (R .S) (R .D) x sec) (words (K .many) m (λ ρ. F (value K law R L₀ σ₀ x ρ y))) 0)
+      words (K .many) (R .S * R .D) (λ x. cond (splitsTo (R .S) (R .D) x sec) (words (K .many) m (λ ρ. F (leafValue K R L₀ σ₀ x ρ y))) 0)
 
-  module _ (R : Routine) (ok : Earlier R) (P L₀ : Set) (σ₀ : ℕ → ℕ) (m : ℕ) (sl : Slots R P L₀ σ₀ m) (L : Set) (run : Run (net R) P L₀ L)
+  module _ (R : Routine) (ok : Earlier R) (P L₀ : Set) (σ₀ : ℕ → ℕ) (m : ℕ) (L : Set) (σ : ℕ → ℕ) (as-often : AsOften K R P m L₀ σ₀ L σ)
       (y : List ℕ) (sy : Small (K .many) y) (F : (ℕ → ℕ) → ℕ) (reads : Reads P F) where
     -- a secret with a share that is not live may change
     move : (sec sec′ : ℕ → ℕ) → ((k : ℕ) → sec k < K .many) → (i j : ℕ) → i < R .S → j < R .D → (Live (net R) P L (i * R .D + j) → ⊥) → (d : ℕ) → d < K .many
@@ -124,14 +124,14 @@ module _ (K : Value) (law : Lawful K) where
         words-ext (K .many) pos (R .S * R .D) (part sec) (λ x. part sec′ (to x)) (λ x len sx.
         ap₂ (λ (b : Bool) (c : ℕ). cond b c 0)
         (sym (splits-move (R .D) x sec sec′ i j j<D d d-ok sx so here else (let f = inside in omega arith) (R .S)))
-        (fixed K law R ok P L₀ σ₀ m sl L run x (to x) y
+        (fixed K law R ok P L₀ σ₀ m L σ as-often x (to x) y
         (λ w l _. sym (getD-set-other x (i * R .D + j) w (K .plus (getD x (i * R .D + j) 0) d) 0 (λ q. dead (subst (Live (net R) P L) q l))))
         sx (small-set (K .many) pos x (i * R .D + j) (K .plus (getD x (i * R .D + j) 0) d) sx
         (plus-ok (getD x (i * R .D + j) 0) d (sx (i * R .D + j)) d-ok)) sy F reads))
         ∙ slide (K .many) pos (R .S * R .D) (i * R .D + j) inside (λ xs v. K .plus v d) (λ xs v. refl) (λ xs _. plus-perm-l K law d d-ok) (part sec′)
       where
         part : (ℕ → ℕ) → List ℕ → ℕ
-        part s x = cond (splitsTo (R .S) (R .D) x s) (words (K .many) m (λ ρ. F (value K law R L₀ σ₀ x ρ y))) 0
+        part s x = cond (splitsTo (R .S) (R .D) x s) (words (K .many) m (λ ρ. F (leafValue K R L₀ σ₀ x ρ y))) 0
 
         to : List ℕ → List ℕ
         to x = set x (i * R .D + j) (K .plus (getD x (i * R .D + j) 0) d)
@@ -176,5 +176,5 @@ module _ (K : Value) (law : Lawful K) where
       secret-free =
           mixed (R .S) (le-refl (R .S))
           ∙ words-ext (K .many) pos (R .S * R .D) _ _
-          (λ x _ _. ap (λ (b : Bool). cond b (words (K .many) m (λ ρ. F (value K law R L₀ σ₀ x ρ y))) 0)
+          (λ x _ _. ap (λ (b : Bool). cond b (words (K .many) m (λ ρ. F (leafValue K R L₀ σ₀ x ρ y))) 0)
           (splits-ext (R .S) (R .D) x (mix sec sec′ (R .S)) sec′ (mix-is sec sec′ (R .S))))

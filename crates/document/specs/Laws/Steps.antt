@@ -2,7 +2,7 @@
 use mathlib.Core.Path.{_≡_, refl, sym, ap, ap₂, _∙_, subst}
 use mathlib.Core.Bool.{Bool, true, false, not, _&&_, _||_, cond}
 use mathlib.Core.Logic.{_⊎_, inl, inr, _↔_}
-use mathlib.Core.List.{List, [], _∷_}
+use mathlib.Core.List.{List, [], _∷_, _++_}
 use mathlib.Core.Option.{Option, none, some}
 use Prim.Native.Nat.{ℕ, zero, suc, _+_, _≤_, _<_, min, max, zero-le}
 use native.Mathlib.Omega.{arith}
@@ -105,7 +105,7 @@ first-none f w (x ∷ rs) later e = go (f x) refl e (first-none f w rs later)
     go true q e rest = never (record { w = w; r = x }) e
     go false q e rest = (λ r h. elim h [ inl i ↦ ap f i ∙ q | inr i ↦ rest e .0 r i ], rest e .1)
 
--- the operands of an `xor` come with the lower one first
+-- what a wire can be padded by comes with the lower one first
 pads-rise : (k : Kind) (a b : ℕ) → Rising (padsOf k a b)
 unfolding padsOf Rising
 pads-rise Share a b = tt
@@ -117,7 +117,7 @@ pads-rise Xor a b = go (eqb a b)
     go true = tt
     go false = (λ y h. elim h [ inl i ↦ omega arith | inr i ↦ absurd i ], (λ y h. absurd h, tt))
 pads-rise And a b = tt
-pads-rise Not a b = tt
+pads-rise Not a b = (λ y h. absurd h, tt)
 
 -- the step that is found can be made, and is of the lowest wire, by its lower operand
 pub lowest-some : (R : Routine) (f : ℕ → ℕ → Bool) (m w : ℕ) (s : Pair) → lowestPad R f m w ≡ some s → f (s .w) (s .r) ≡ true
@@ -176,6 +176,11 @@ none-left R L w h e o = omega (arith, tally-more (size R) (λ _. false) (λ u. n
 pub run-allowed : (R : Routine) (probe leaf : Marks) (ss : List Pair) → RuleRun R probe leaf ss → Allowed R probe leaf ss
 run-allowed R probe leaf [] run = tt
 run-allowed R probe leaf (s ∷ ss) run = (run .0, run-allowed R probe (stepped leaf (s .w)) ss (run .2))
+
+-- the first of allowed steps are allowed
+pub allowed-front : (R : Routine) (probe leaf : Marks) (ss ts : List Pair) → Allowed R probe leaf (ss ++ ts) → Allowed R probe leaf ss
+allowed-front R probe leaf [] ts a = tt
+allowed-front R probe leaf (s ∷ ss) ts a = (a .0, allowed-front R probe (stepped leaf (s .w)) ss ts (a .1))
 
 -- 3.19: and it goes on until none is left
 pub run-ends : (R : Routine) (probe leaf : Marks) (ss : List Pair) → RuleRun R probe leaf ss → Stuck R probe (leavesAfter ss leaf)

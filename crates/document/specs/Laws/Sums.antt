@@ -8,13 +8,10 @@ use native.Mathlib.Nat.{not-suc-le-zero, le-of-suc-le-suc}
 use native.Mathlib.Omega.{arith}
 use lib.Dec.{eqb}
 use lib.ListN.{length, getD, set}
-use Rattle.document.specs.Starts.{Small}
+use Rattle.document.specs.Starts.{upd, OneToOne, Small}
 use Rattle.data.specs.Laws.Tests.{cond-true, cond-false, eqb-true, true-eqb, out-of, wire-cases}
 
 -- ---- one changed place of a function
-
-pub upd : {A : Type 0} → (ℕ → A) → ℕ → A → ℕ → A
-upd e r a v = cond (eqb v r) a (e v)
 
 pub upd-same : {A : Type 0} (e : ℕ → A) (r : ℕ) (a : A) (v : ℕ) → v ≡ r → upd e r a v ≡ a
 unfolding upd
@@ -61,15 +58,10 @@ total-upd (suc n) f k c h = wire-cases n k
     omega arith)
     (λ e. let a = upd-other f k c n e in let b = total-upd n f k c (omega arith) in omega arith)
 
--- ---- permutations
+-- ---- one-to-one functions: they permute the numbers below n
 
--- a map of the numbers below n to themselves that takes no two to one
-pub record Perm (n : ℕ) (π : ℕ → ℕ) : Type 0 where
-  pub stays : (v : ℕ) → v < n → π v < n
-  pub apart : (u v : ℕ) → u < n → v < n → π u ≡ π v → u ≡ v
-
-pub perm-ext : (n : ℕ) (π κ : ℕ → ℕ) → ((v : ℕ) → π v ≡ κ v) → Perm n π → Perm n κ
-perm-ext n π κ h p = subst (Perm n) (fun-ext h) p
+pub perm-ext : (n : ℕ) (π κ : ℕ → ℕ) → ((v : ℕ) → π v ≡ κ v) → OneToOne n π → OneToOne n κ
+perm-ext n π κ h p = subst (OneToOne n) (fun-ext h) p
 
 -- π below n, where what went to n goes where n went
 around : ℕ → (ℕ → ℕ) → ℕ → ℕ
@@ -81,7 +73,7 @@ around-cases n π v f g = wire-cases (π v) n
     (λ e. f e (cond-true (π n) (π v) (true-eqb (π v) n e)))
     (λ e. g e (cond-false (π n) (π v) (out-of (λ q. e (eqb-true (π v) n q)))))
 
-pub total-perm : (n : ℕ) (π : ℕ → ℕ) → Perm n π → (f : ℕ → ℕ) → total n (λ v. f (π v)) ≡ total n f
+pub total-perm : (n : ℕ) (π : ℕ → ℕ) → OneToOne n π → (f : ℕ → ℕ) → total n (λ v. f (π v)) ≡ total n f
 unfolding total
 total-perm zero π p f = refl
 total-perm (suc n) π p f = wire-cases (π n) n
@@ -138,7 +130,7 @@ module _ (b : ℕ) (pos : 0 < b) where
 
   -- the value at place s goes through a permutation that reads the other places only
   pub slide : (m s : ℕ) → s < m → (π : List ℕ → ℕ → ℕ) → ((xs : List ℕ) (v : ℕ) → π (set xs s v) ≡ π xs)
-      → ((xs : List ℕ) → Small b xs → Perm b (π xs))
+      → ((xs : List ℕ) → Small b xs → OneToOne b (π xs))
       → (F : List ℕ → ℕ) → words b m (λ xs. F (set xs s (π xs (getD xs s 0)))) ≡ words b m F
   unfolding words
   slide zero s h π i p F = absurd (not-suc-le-zero h)

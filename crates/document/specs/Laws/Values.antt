@@ -1,7 +1,7 @@
 -- The laws that a kind of value must have, bits among them; and the values of wires of which some are leaves that read a slot of the random word.
 use mathlib.Core.Path.{_≡_, refl, sym, ap, ap₂, _∙_, subst}
 use mathlib.Core.Bool.{Bool, true, false, cond}
-use mathlib.Core.Logic.{inl, inr, _≢_}
+use mathlib.Core.Logic.{_⊎_, inl, inr, _≢_}
 use mathlib.Core.List.{List, [], _∷_}
 use Prim.Native.Nat.{ℕ, zero, suc, _+_, _*_, _-_, _/_, _%_, _<_, min, max}
 use native.Mathlib.Nat.{not-suc-le-zero, mod-lt, zero-lt-suc}
@@ -10,13 +10,13 @@ use lib.Arith.{bin-ind}
 use lib.Bits.{bitXor, differ, xor-step, xor-shr, xor-mod, xor-comm, xor-lt, and-lt, xor-self, xor-zero-l}
 use lib.Dec.{eqb, lit<}
 use lib.ListN.{getD}
-use Rattle.document.specs.Routine.{Routine, wire, pubsBefore, operandsOf, operands}
+use Rattle.document.specs.Routine.{Routine, wire, randsBefore, pubsBefore, operandsOf, operands}
 use Rattle.document.specs.Running.{Value, bit, gives, valueAt}
 use Rattle.document.specs.Padding.{padsOf, pads}
-use Rattle.data.specs.Laws.Tests.{bool-cases, true-eqb, clash, wire-cases, Mem}
+use Rattle.data.specs.Laws.Tests.{bool-cases, cond-true, cond-false, true-eqb, clash, wire-cases, Mem}
 use Rattle.document.specs.Laws.Marks.{Set, In, Out}
-use Rattle.document.specs.Laws.Sums.{upd, upd-same, upd-other, Perm, perm-ext}
-use Rattle.document.specs.Starts.{Small}
+use Rattle.document.specs.Starts.{upd, valueWithin, leafValue, OneToOne, Small}
+use Rattle.document.specs.Laws.Sums.{upd-same, upd-other, perm-ext}
 use Rattle.document.specs.Laws.Live.{Earlier}
 use Rattle.data.specs.declared.Kind.{Kind}
 use Rattle.data.specs.declared.Kind.the-variants.{Share, Rand, Pub, Xor, And, Not}
@@ -31,6 +31,7 @@ pub record Lawful (K : Value) : Type 0 where
   pub plus-assoc : (a b c : ℕ) → a < K .many → b < K .many → c < K .many → K .plus (K .plus a b) c ≡ K .plus a (K .plus b c)
   pub plus-comm : (a b : ℕ) → a < K .many → b < K .many → K .plus a b ≡ K .plus b a
   pub plus-back : (a b : ℕ) → a < K .many → b < K .many → K .plus a (K .plus a b) ≡ b
+  pub turn-apart : (a b : ℕ) → a < K .many → b < K .many → K .turn a ≡ K .turn b → a ≡ b
 
 digit : (x y z : ℕ) → x < 2 → y < 2 → z < 2 → differ (bitXor x y) z ≡ differ x (bitXor y z)
 digit zero zero zero h k l = refl
@@ -71,19 +72,23 @@ bit-lawful = record {
   plus-assoc = λ a b c _ _ _. xor-assoc a b c;
   plus-comm = λ a b _ _. xor-comm a b;
   plus-back = λ a b _ _. xor-back a b;
+  turn-apart = λ a b h k e. omega arith;
 }
 
 module _ (K : Value) (law : Lawful K) where
-  open Lawful law using (pos, plus-ok, times-ok, turn-ok, plus-comm, plus-back)
+  open Lawful law using (pos, plus-ok, times-ok, turn-ok, plus-comm, plus-back, turn-apart)
 
   pub cancel : (c u v : ℕ) → c < K .many → u < K .many → v < K .many → K .plus c u ≡ K .plus c v → u ≡ v
   cancel c u v k a b e = sym (plus-back c u k a) ∙ ap (K .plus c) e ∙ plus-back c v k b
 
-  pub plus-perm-r : (c : ℕ) → c < K .many → Perm (K .many) (λ v. K .plus c v)
+  pub plus-perm-r : (c : ℕ) → c < K .many → OneToOne (K .many) (λ v. K .plus c v)
   plus-perm-r c k = record { stays = λ v l. plus-ok c v k l; apart = λ u v a b e. cancel c u v k a b e }
 
-  pub plus-perm-l : (c : ℕ) → c < K .many → Perm (K .many) (λ v. K .plus v c)
+  pub plus-perm-l : (c : ℕ) → c < K .many → OneToOne (K .many) (λ v. K .plus v c)
   plus-perm-l c k = record { stays = λ v l. plus-ok v c l k; apart = λ u v a b e. cancel c u v k a b (plus-comm c u k a ∙ e ∙ plus-comm v c b k) }
+
+  turn-perm : OneToOne (K .many) (K .turn)
+  turn-perm = record { stays = turn-ok; apart = turn-apart }
 
   -- ---- what a wire gives
 
@@ -117,30 +122,36 @@ module _ (K : Value) (law : Lawful K) where
   gives-share And s s′ r p a b h = refl
   gives-share Not s s′ r p a b h = refl
 
-  -- a wire that can be padded by r is a permutation of the value of r
-  gives-perm : (k : Kind) (x y r : ℕ) → Mem r (padsOf k x y) → (s q p : ℕ) (e : ℕ → ℕ) → ((v : ℕ) → e v < K .many)
-      → Perm (K .many) (λ v. gives K k s q p (upd e r v x) (upd e r v y))
+  -- ---- what a step promises (9.34): a wire is a one-to-one function of what it can be padded by, whatever the other wires hold
+
+  -- an xor of two different wires, by either of them
+  xor-one-to-one : (x y r : ℕ) → x ≢ y → (r ≡ x) ⊎ (r ≡ y) → (e : ℕ → ℕ) → ((v : ℕ) → e v < K .many)
+      → OneToOne (K .many) (λ v. K .plus (upd e r v x) (upd e r v y))
+  xor-one-to-one x y r n (inl q) e h = perm-ext (K .many) (λ v. K .plus v (e y)) (λ v. K .plus (upd e r v x) (upd e r v y))
+      (λ v. sym (ap₂ (K .plus) (upd-same e r v x (sym q)) (upd-other e r v y (λ z. n (sym (z ∙ q)))))) (plus-perm-l (e y) (h y))
+  xor-one-to-one x y r n (inr q) e h = perm-ext (K .many) (λ v. K .plus (e x) v) (λ v. K .plus (upd e r v x) (upd e r v y))
+      (λ v. sym (ap₂ (K .plus) (upd-other e r v x (λ z. n (z ∙ q))) (upd-same e r v y (sym q)))) (plus-perm-r (e x) (h x))
+
+  -- a not, by its operand
+  not-one-to-one : (x r : ℕ) → r ≡ x → (e : ℕ → ℕ) → OneToOne (K .many) (λ v. K .turn (upd e r v x))
+  not-one-to-one x r q e = perm-ext (K .many) (K .turn) (λ v. K .turn (upd e r v x)) (λ v. ap (K .turn) (sym (upd-same e r v x (sym q)))) turn-perm
+
+  gives-one-to-one : (k : Kind) (x y r : ℕ) → Mem r (padsOf k x y) → (s q p : ℕ) (e : ℕ → ℕ) → ((v : ℕ) → e v < K .many)
+      → OneToOne (K .many) (λ v. gives K k s q p (upd e r v x) (upd e r v y))
   unfolding gives padsOf
-  gives-perm Share x y r m s q p e h = absurd m
-  gives-perm Rand x y r m s q p e h = absurd m
-  gives-perm Pub x y r m s q p e h = absurd m
-  gives-perm Xor x y r m s q p e h = bool-cases (eqb x y) (λ c. absurd (subst (λ (c : Bool). Mem r (cond c [] (min x y ∷ max x y ∷ []))) c m))
-      (λ c. go (λ z. clash (true-eqb x y z) c) (subst (λ (c : Bool). Mem r (cond c [] (min x y ∷ max x y ∷ []))) c m))
+  gives-one-to-one Share x y r m s q p e h = absurd m
+  gives-one-to-one Rand x y r m s q p e h = absurd m
+  gives-one-to-one Pub x y r m s q p e h = absurd m
+  gives-one-to-one Xor x y r m s q p e h = bool-cases (eqb x y) (λ c. absurd (subst (λ (c : Bool). Mem r (cond c [] (min x y ∷ max x y ∷ []))) c m))
+      (λ c. xor-one-to-one x y r (λ z. clash (true-eqb x y z) c) (either (subst (λ (c : Bool). Mem r (cond c [] (min x y ∷ max x y ∷ []))) c m)) e h)
     where
-      left : x ≢ y → r ≡ x → Perm (K .many) (λ v. K .plus (upd e r v x) (upd e r v y))
-      left n q = perm-ext (K .many) (λ v. K .plus v (e y)) (λ v. K .plus (upd e r v x) (upd e r v y))
-          (λ v. sym (ap₂ (K .plus) (upd-same e r v x (sym q)) (upd-other e r v y (λ z. n (sym (z ∙ q)))))) (plus-perm-l (e y) (h y))
-
-      right : x ≢ y → r ≡ y → Perm (K .many) (λ v. K .plus (upd e r v x) (upd e r v y))
-      right n q = perm-ext (K .many) (λ v. K .plus (e x) v) (λ v. K .plus (upd e r v x) (upd e r v y))
-          (λ v. sym (ap₂ (K .plus) (upd-other e r v x (λ z. n (z ∙ q))) (upd-same e r v y (sym q)))) (plus-perm-r (e x) (h x))
-
-      go : x ≢ y → Mem r (min x y ∷ max x y ∷ []) → Perm (K .many) (λ v. K .plus (upd e r v x) (upd e r v y))
-      go n (inl q) = wire-cases r x (left n) (λ d. right n (omega arith))
-      go n (inr (inl q)) = wire-cases r x (left n) (λ d. right n (omega arith))
-      go n (inr (inr q)) = absurd q
-  gives-perm And x y r m s q p e h = absurd m
-  gives-perm Not x y r m s q p e h = absurd m
+      either : Mem r (min x y ∷ max x y ∷ []) → (r ≡ x) ⊎ (r ≡ y)
+      either (inl q) = wire-cases r x inl (λ d. inr (omega arith))
+      either (inr (inl q)) = wire-cases r x inl (λ d. inr (omega arith))
+      either (inr (inr q)) = absurd q
+  gives-one-to-one And x y r m s q p e h = absurd m
+  gives-one-to-one Not x y r (inl i) s q p e h = not-one-to-one x r i e
+  gives-one-to-one Not x y r (inr i) s q p e h = absurd i
 
   -- ---- the same of a routine's wire; a random that is no leaf reads nothing
 
@@ -162,52 +173,48 @@ module _ (K : Value) (law : Lawful K) where
         gives-ok (wire R w .kind) (getD x w 0) 0 (getD y (pubsBefore R w) 0) (e (wire R w .a)) (e (wire R w .b))
         (sx w) pos (sy (pubsBefore R w)) (h (wire R w .a)) (h (wire R w .b))
 
-    pub inner-perm : (x y : List ℕ) (w r : ℕ) → Mem r (pads R w) → (e : ℕ → ℕ) → ((v : ℕ) → e v < K .many) → Perm (K .many) (λ v. innerValue x y (upd e r v) w)
+    pub pad-one-to-one : (x ρ y : List ℕ) (w r : ℕ) → Mem r (pads R w) → (e : ℕ → ℕ) → ((v : ℕ) → e v < K .many)
+        → OneToOne (K .many) (λ v. valueAt K R x ρ y (upd e r v) w)
     unfolding valueAt pads
-    inner-perm x y w r m e h = gives-perm (wire R w .kind) (wire R w .a) (wire R w .b) r m (getD x w 0) 0 (getD y (pubsBefore R w) 0) e h
+    pad-one-to-one x ρ y w r m e h =
+        gives-one-to-one (wire R w .kind) (wire R w .a) (wire R w .b) r m (getD x w 0) (getD ρ (randsBefore R w) 0) (getD y (pubsBefore R w) 0) e h
 
-    -- ---- the value of a wire when the leaves L read slot σ of the random word ρ
-
-    leafed : Bool → ℕ → List ℕ → ℕ → ℕ
-    leafed b s ρ v = cond b (getD ρ s 0) v
-
-    fueled : ℕ → Set → (ℕ → ℕ) → List ℕ → List ℕ → List ℕ → ℕ → ℕ
-    fueled zero L σ x ρ y w = 0
-    fueled (suc k) L σ x ρ y w = leafed (L w) (σ w) ρ (innerValue x y (fueled k L σ x ρ y) w)
-
-    pub value : Set → (ℕ → ℕ) → List ℕ → List ℕ → List ℕ → ℕ → ℕ
-    value L σ x ρ y w = fueled (suc w) L σ x ρ y w
+    -- ---- the value of a wire when the leaves L show draw σ of the random word ρ
 
     module _ (ok : Earlier R) (L : Set) (σ : ℕ → ℕ) (x ρ y : List ℕ) where
-      small : Small (K .many) x → Small (K .many) ρ → Small (K .many) y → (k w : ℕ) → fueled k L σ x ρ y w < K .many
-      unfolding fueled leafed
+      abbrev within : ℕ → ℕ → ℕ
+      within = valueWithin K R L σ x ρ y
+
+      abbrev val : ℕ → ℕ
+      val = leafValue K R L σ x ρ y
+
+      small : Small (K .many) x → Small (K .many) ρ → Small (K .many) y → (k w : ℕ) → within k w < K .many
+      unfolding valueWithin
       small sx sρ sy zero w = pos
       small sx sρ sy (suc k) w = go (L w) (small sx sρ sy k)
         where
-          go : (b : Bool) → ((v : ℕ) → fueled k L σ x ρ y v < K .many) → leafed b (σ w) ρ (innerValue x y (fueled k L σ x ρ y) w) < K .many
+          go : (b : Bool) → ((v : ℕ) → within k v < K .many) → cond b (getD ρ (σ w) 0) (innerValue x y (within k) w) < K .many
           go true ih = sρ (σ w)
-          go false ih = inner-ok x y (fueled k L σ x ρ y) w sx sy ih
+          go false ih = inner-ok x y (within k) w sx sy ih
 
-      enough : (k j w : ℕ) → w < k → w < j → fueled k L σ x ρ y w ≡ fueled j L σ x ρ y w
-      unfolding fueled
+      enough : (k j w : ℕ) → w < k → w < j → within k w ≡ within j w
+      unfolding valueWithin
       enough zero j w h l = absurd (not-suc-le-zero h)
       enough (suc k) zero w h l = absurd (not-suc-le-zero l)
-      enough (suc k) (suc j) w h l = ap (leafed (L w) (σ w) ρ)
-          (inner-ext x y (fueled k L σ x ρ y) (fueled j L σ x ρ y) w (λ v o. let q : v < w = ok w v o in enough k j v (omega arith) (omega arith)))
+      enough (suc k) (suc j) w h l = ap (cond (L w) (getD ρ (σ w) 0))
+          (inner-ext x y (within k) (within j) w (λ v o. let q : v < w = ok w v o in enough k j v (omega arith) (omega arith)))
 
-      value-wire : (w : ℕ) → value L σ x ρ y w ≡ leafed (L w) (σ w) ρ (innerValue x y (value L σ x ρ y) w)
-      unfolding fueled value
-      value-wire w = ap (leafed (L w) (σ w) ρ)
-          (inner-ext x y (fueled w L σ x ρ y) (value L σ x ρ y) w (λ v o. let q : v < w = ok w v o in enough w (suc v) v q (omega arith)))
+      value-wire : (w : ℕ) → val w ≡ cond (L w) (getD ρ (σ w) 0) (innerValue x y val w)
+      unfolding valueWithin leafValue
+      value-wire w = ap (cond (L w) (getD ρ (σ w) 0))
+          (inner-ext x y (within w) val w (λ v o. let q : v < w = ok w v o in enough w (suc v) v q (omega arith)))
 
-      pub value-ok : Small (K .many) x → Small (K .many) ρ → Small (K .many) y → (w : ℕ) → value L σ x ρ y w < K .many
-      unfolding value
+      pub value-ok : Small (K .many) x → Small (K .many) ρ → Small (K .many) y → (w : ℕ) → leafValue K R L σ x ρ y w < K .many
+      unfolding leafValue
       value-ok sx sρ sy w = small sx sρ sy (suc w) w
 
-      pub value-leaf : (w : ℕ) → In L w → value L σ x ρ y w ≡ getD ρ (σ w) 0
-      unfolding leafed
-      value-leaf w i = value-wire w ∙ ap (λ (b : Bool). leafed b (σ w) ρ (innerValue x y (value L σ x ρ y) w)) i
+      pub value-leaf : (w : ℕ) → In L w → leafValue K R L σ x ρ y w ≡ getD ρ (σ w) 0
+      value-leaf w i = value-wire w ∙ cond-true _ _ i
 
-      pub value-inner : (w : ℕ) → Out L w → value L σ x ρ y w ≡ valueAt K R x [] y (value L σ x ρ y) w
-      unfolding leafed
-      value-inner w i = value-wire w ∙ ap (λ (b : Bool). leafed b (σ w) ρ (innerValue x y (value L σ x ρ y) w)) i
+      pub value-inner : (w : ℕ) → Out L w → leafValue K R L σ x ρ y w ≡ valueAt K R x [] y (leafValue K R L σ x ρ y) w
+      value-inner w o = value-wire w ∙ cond-false _ _ o

@@ -2,7 +2,7 @@
 use mathlib.Core.Path.{sym, _∙_}
 use borrow.Author.Needs.{needs}
 use Rattle.step.specs.Next.{servesBy}
-use Rattle.step.specs.Laws.Next.{pad-same, pad-low, pad-high, pad-none}
+use Rattle.step.specs.Laws.Next.{pad-same, pad-low, pad-high}
 use Rattle.step.proofs.pad_by_two.Statement.{statement}
 use Rattle.step.proofs.pad_by_two.Tie as tie
 
@@ -18,11 +18,11 @@ higher-requires c κs = search needs
 can-serve-requires : tie.Need-can-serve-requires
 can-serve-requires c κs = search needs
 
+cast-t12 : tie.Need-cast-t12
+cast-t12 c = search needs
+
 cast-t13 : tie.Need-cast-t13
 cast-t13 c = search needs
-
-cast-t14 : tie.Need-cast-t14
-cast-t14 c = search needs
 
 returns-2 : tie.Need-returns-2
 returns-2 c = let lows = c .before .before .before in
@@ -30,30 +30,16 @@ returns-2 c = let lows = c .before .before .before in
     pad-low (servesBy (a .probe) (a .leaf) (a .counts)) (a .w) (a .a) (a .b) (lows .lower .result) (lows .before .if1 .left) (lows .lower .ensures)
     (sym (c .before .can-serve .ensures) ∙ c .if2 .taken)
 
-can-serve-requires-2 : tie.Need-can-serve-requires-2
-can-serve-requires-2 c κs = search needs
-
-cast-t16 : tie.Need-cast-t16
-cast-t16 c = search needs
-
-cast-t17 : tie.Need-cast-t17
-cast-t17 c = search needs
+pad-by-one-requires : tie.Need-pad-by-one-requires
+pad-by-one-requires c κs = search needs
 
 returns-3 : tie.Need-returns-3
-returns-3 c = let highs = c .before .before .before .before in
+returns-3 c = let highs = c .before .before .before in
     let lows = highs .before in
     let a = lows .before .before .args in
-    pad-high (servesBy (a .probe) (a .leaf) (a .counts)) (a .w) (a .a) (a .b) (lows .lower .result) (highs .higher .result) (lows .before .if1 .left)
-    (lows .lower .ensures) (sym (c .before .before .before .can-serve .ensures) ∙ c .before .before .if2 .left) (highs .higher .ensures)
-    (sym (c .before .can-serve2 .ensures) ∙ c .if3 .taken)
-
-returns-4 : tie.Need-returns-4
-returns-4 c = let highs = c .before .before .before .before in
-    let lows = highs .before in
-    let a = lows .before .before .args in
-    pad-none (servesBy (a .probe) (a .leaf) (a .counts)) (a .w) (a .a) (a .b) (lows .lower .result) (highs .higher .result) (lows .before .if1 .left)
-    (lows .lower .ensures) (sym (c .before .before .before .can-serve .ensures) ∙ c .before .before .if2 .left) (highs .higher .ensures)
-    (sym (c .before .can-serve2 .ensures) ∙ c .if3 .left)
+    c .pad-by-one .ensures
+    ∙ pad-high (servesBy (a .probe) (a .leaf) (a .counts)) (a .w) (a .a) (a .b) (lows .lower .result) (highs .higher .result) (lows .before .if1 .left)
+    (lows .lower .ensures) (sym (c .before .before .can-serve .ensures) ∙ c .before .if2 .left) (highs .higher .ensures)
 
 pub pad-by-two-spec : {M : Type 1} → statement M
 pad-by-two-spec =
@@ -63,11 +49,8 @@ pad-by-two-spec =
     lower-requires
     higher-requires
     can-serve-requires
+    cast-t12
     cast-t13
-    cast-t14
     returns-2
-    can-serve-requires-2
-    cast-t16
-    cast-t17
-    returns-3
-    returns-4)
+    pad-by-one-requires
+    returns-3)

@@ -14,7 +14,7 @@ use lib.Seq.{length-take-le}
 use Rattle.data.specs.Basics.{all, elem, Marks, at}
 use Rattle.document.specs.Padding.{live, padsOf, pads, consumes, onlyConsumer, serves, padsBy, firstPad, lowestPad, nextStep}
 use Rattle.document.specs.Routine.{operandsOf, operands}
-use Rattle.data.specs.Laws.Tests.{clash, and-i, Mem, elem←}
+use Rattle.data.specs.Laws.Tests.{and-i, Mem, elem←}
 use Rattle.document.specs.Laws.Live.{pad-op-of}
 use Rattle.data.specs.declared.Kind.{Kind}
 use Rattle.data.specs.declared.Kind.the-variants.{Share, Rand, Pub, Xor, And, Not}
@@ -25,7 +25,7 @@ use Rattle.counts.specs.Laws.Counts.{wire-is}
 use Rattle.marks.specs.Passes.{onlyWires, wired, Wired}
 use Rattle.consumers.specs.Consumers.{Consumers}
 use Rattle.consumers.specs.Laws.Consumers.{counts-all, only-counted}
-use Rattle.step.specs.Next.{servesBy, isXor}
+use Rattle.step.specs.Next.{servesBy}
 
 -- the first step found, or else the other
 unfoldable pub orElse : Option Step → Option Step → Option Step
@@ -68,7 +68,16 @@ operands-low And a b r ha hb (inr (inr m)) = absurd m
 operands-low Not a b r ha hb (inl e) = omega arith
 operands-low Not a b r ha hb (inr m) = absurd m
 
--- ---- the step of an xor, operand by operand
+-- ---- the step of a wire, operand by operand
+
+module _ (f : ℕ → Bool) (w r : ℕ) where
+  pub pad-one : f r ≡ true → some (record { w = w; r = r }) ≡ firstPad f w (r ∷ []) none
+  unfolding firstPad
+  pad-one t = simp t
+
+  pub pad-none : f r ≡ false → none ≡ firstPad f w (r ∷ []) none
+  unfolding firstPad
+  pad-none o = simp o
 
 module _ (f : ℕ → Bool) (w a b : ℕ) where
   pub pad-same : a ≡ b → none ≡ firstPad f w (padsOf Xor a b) none
@@ -79,32 +88,10 @@ module _ (f : ℕ → Bool) (w a b : ℕ) where
   unfolding firstPad padsOf
   pad-low r n e t = simp (ne-eqb a b n, ← e, t)
 
-  pub pad-high : (q r : ℕ) → (a ≡ b → ⊥) → q ≡ min a b → f q ≡ false → r ≡ max a b → f r ≡ true
-      → some (record { w = w; r = r }) ≡ firstPad f w (padsOf Xor a b) none
+  pub pad-high : (q r : ℕ) → (a ≡ b → ⊥) → q ≡ min a b → f q ≡ false → r ≡ max a b
+      → firstPad f w (r ∷ []) none ≡ firstPad f w (padsOf Xor a b) none
   unfolding firstPad padsOf
-  pad-high q r n d o e t = simp (ne-eqb a b n, ← d, o, ← e, t)
-
-  pub pad-none : (q r : ℕ) → (a ≡ b → ⊥) → q ≡ min a b → f q ≡ false → r ≡ max a b → f r ≡ false → none ≡ firstPad f w (padsOf Xor a b) none
-  unfolding firstPad padsOf
-  pad-none q r n d o e t = simp (ne-eqb a b n, ← d, o, ← e, t)
-
--- no other wire can be padded
-pub pad-xor : (f : ℕ → Bool) (w a b : ℕ) (k : Kind) → isXor k ≡ true → firstPad f w (padsOf Xor a b) none ≡ firstPad f w (padsOf k a b) none
-pad-xor f w a b Share e = clash e refl
-pad-xor f w a b Rand e = clash e refl
-pad-xor f w a b Pub e = clash e refl
-pad-xor f w a b Xor e = refl
-pad-xor f w a b And e = clash e refl
-pad-xor f w a b Not e = clash e refl
-
-pub pad-other : (f : ℕ → Bool) (w a b : ℕ) (k : Kind) → isXor k ≡ false → none ≡ firstPad f w (padsOf k a b) none
-unfolding firstPad padsOf
-pad-other f w a b Share e = refl
-pad-other f w a b Rand e = refl
-pad-other f w a b Pub e = refl
-pad-other f w a b Xor e = clash refl e
-pad-other f w a b And e = refl
-pad-other f w a b Not e = refl
+  pad-high q r n d o e = simp (ne-eqb a b n, ← d, o, ← e)
 
 -- ---- the lowest step
 
