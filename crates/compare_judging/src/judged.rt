@@ -143,16 +143,25 @@ fn compare_listed(
     tally::compared(t, places.list, same::same_judged(r, own))
 }
 
+// Whether it has a not, and starts that can be counted.
 fn has_nots(g: Listing) -> bool {
     let ws = g.wires;
-    wires::count_kind(g.shape.n, ws, wires::NOT) != 0
+    let r = starts::starts_of(g);
+    (r.starts != 0) & (wires::count_kind(g.shape.n, ws, wires::NOT) != 0)
 }
 
-// What is not open where no not is padded is not open where they are. A pass is held to what it means, and counted apart where padded nots give it.
-fn compare_kept(t: [u64; 104], g: Listing, which: Which, order: usize, hit: bool) -> [u64; 104] {
+// With no not padded the first open set comes no later. A pass is held to what it means, and counted apart where padded nots give it.
+fn compare_kept(
+    t: [u64; 104],
+    g: Listing,
+    which: Which,
+    order: usize,
+    own: judging::Judgement,
+) -> [u64; 104] {
     let kept = judging::judge(judging::with_nots_kept(g), which, order);
-    let u = tally::compared(t, tally::NOTS_KEPT, kept.hit | !hit);
-    if hit {
+    let no_later = kept.hit & (kept.count <= own.count);
+    let u = tally::compared(t, tally::NOTS_KEPT, no_later | !own.hit);
+    if own.hit {
         return u;
     }
     let v = observe(u, g, which, order);
@@ -176,7 +185,7 @@ fn compare_judgement(t: [u64; 104], g: Listing, which: Which, order: usize) -> [
     }
     let w = tally::outcome(v, places.pass, own.hit);
     if has_nots(g) {
-        return compare_kept(w, g, which, order, own.hit);
+        return compare_kept(w, g, which, order, own);
     }
     if own.hit {
         return w;

@@ -7,3 +7,4 @@ pub mod Seen
 pub mod Spared
 pub mod Making
 pub mod Inverted
+pub mod Listed

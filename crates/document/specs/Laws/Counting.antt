@@ -22,7 +22,7 @@ use Rattle.document.specs.Laws.Values.{Lawful, inner-ext, inner-share, p
 use Rattle.data.specs.declared.Kind.the-variants.{Share}
 use Rattle.data.specs.declared.Step.{Step as Pair}
 
--- the live leaves read slots of their own, below m
+-- the live leaves have draws of their own, below m
 pub record Slots (R : Routine) (P L : Set) (σ : ℕ → ℕ) (m : ℕ) : Type 0 where
   pub low : (u : ℕ) → In L u → σ u < m
   pub apart : (u v : ℕ) → Live (net R) P L u → Live (net R) P L v → In L u → In L v → σ u ≡ σ v → u ≡ v
@@ -63,7 +63,7 @@ module _ (K : Value) (law : Lawful K) (R : Routine) (ok : Earlier R) (P L : Set)
   r-dead v (operand {u} l o q) e =
       clash (add-self L w u (st .only u (fewer l) (out-before u o) (subst (λ (k : ℕ). Mem k (operands R u)) e q))) o
 
-  -- of the live wires below w, only r reads the slot
+  -- of the live wires below w, only r shows its draw
   quiet : (ρ : List ℕ) (v : ℕ) (u : ℕ) → u < w → Live (net R) P L u → u ≢ r → val (set ρ (σ r) v) u ≡ val ρ u
   quiet ρ v = below (λ u. u < w → Live (net R) P L u → u ≢ r → val (set ρ (σ r) v) u ≡ val ρ u) (λ u ih h l n.
       bool-cases (L u)
@@ -87,7 +87,7 @@ module _ (K : Value) (law : Lawful K) (R : Routine) (ok : Earlier R) (P L : Set)
       (λ e. upd-same (val (set ρ (σ r) v)) r a u e ∙ sym (upd-same (val ρ) r a u e))
       (λ n. upd-other (val (set ρ (σ r) v)) r a u n ∙ quiet ρ v u (ok w u o) (operand (st .alive) (st .inner) o) n ∙ sym (upd-other (val ρ) r a u n))))
 
-  -- the random word whose slot holds w instead of r
+  -- the random word with w in the place of r
   φ : List ℕ → List ℕ
   φ ρ = set ρ (σ r) (π ρ (getD ρ (σ r) 0))
 

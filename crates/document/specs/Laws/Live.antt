@@ -1,7 +1,7 @@
 -- The live marks that are computed are the live wires of the rule.
 use mathlib.Core.Path.{_≡_, refl, ap, subst}
-use mathlib.Core.Bool.{Bool, true, false, not, _&&_, cond}
-use mathlib.Core.Logic.{inl, inr, _↔_}
+use mathlib.Core.Bool.{Bool, not, _&&_, cond}
+use mathlib.Core.Logic.{_⊎_, inl, inr, _≢_, _↔_}
 use mathlib.Core.List.{[], _∷_}
 use Prim.Native.Nat.{ℕ, zero, suc, _≤_, _<_, min, max}
 use native.Mathlib.Nat.{not-suc-le-zero, le-refl}
@@ -11,11 +11,23 @@ use lib.ListN.{length}
 use Rattle.data.specs.Basics.{Marks, at, mark}
 use Rattle.document.specs.Routine.{Routine, size, wire, operandsOf, operands}
 use Rattle.document.specs.Padding.{liveDown, live, padsOf, pads}
-use Rattle.data.specs.Laws.Tests.{clash, and-l, and-r, and-i, not-t, cond-cases, wire-cases, Mem}
+use Rattle.data.specs.Laws.Tests.{clash, bool-cases, true-eqb, and-l, and-r, and-i, not-t, cond-cases, wire-cases, Mem}
 use Rattle.document.specs.Laws.Marks.{Set, In, Out, mark-length, mark-keeps, mark-cases, mark-marks}
 use Rattle.document.specs.Laws.Rule.{Net, Live, probed, operand}
 use Rattle.data.specs.declared.Kind.{Kind}
 use Rattle.data.specs.declared.Kind.the-variants.{Share, Rand, Pub, Xor, And, Not}
+
+-- an `xor` can be padded by either of two different wires
+pub xor-pads : (a b r : ℕ) → Mem r (padsOf Xor a b) → (a ≢ b) × ((r ≡ a) ⊎ (r ≡ b))
+unfolding padsOf
+xor-pads a b r m =
+    bool-cases (eqb a b) (λ c. absurd (subst (λ (c : Bool). Mem r (cond c [] (min a b ∷ max a b ∷ []))) c m))
+    (λ c. (λ q. clash (true-eqb a b q) c, either (subst (λ (c : Bool). Mem r (cond c [] (min a b ∷ max a b ∷ []))) c m)))
+  where
+    either : Mem r (min a b ∷ max a b ∷ []) → (r ≡ a) ⊎ (r ≡ b)
+    either (inl q) = wire-cases r a inl (λ d. inr (omega arith))
+    either (inr (inl q)) = wire-cases r a inl (λ d. inr (omega arith))
+    either (inr (inr q)) = absurd q
 
 -- what a wire can be padded by is an operand of it
 pads-operands : (k : Kind) (a b r : ℕ) → Mem r (padsOf k a b) → Mem r (operandsOf k a b)
@@ -23,16 +35,7 @@ unfolding padsOf operandsOf
 pads-operands Share a b r m = m
 pads-operands Rand a b r m = m
 pads-operands Pub a b r m = m
-pads-operands Xor a b r m = go (eqb a b) m
-  where
-    lower : Mem r (min a b ∷ max a b ∷ []) → Mem r (a ∷ b ∷ [])
-    lower (inl e) = wire-cases r a inl (λ n. inr (inl (omega arith)))
-    lower (inr (inl e)) = wire-cases r a inl (λ n. inr (inl (omega arith)))
-    lower (inr (inr k)) = absurd k
-
-    go : (c : Bool) → Mem r (cond c [] (min a b ∷ max a b ∷ [])) → Mem r (a ∷ b ∷ [])
-    go true k = absurd k
-    go false k = lower k
+pads-operands Xor a b r m = elim (xor-pads a b r m .1) [ inl e ↦ inl e | inr e ↦ inr (inl e) ]
 pads-operands And a b r m = absurd m
 pads-operands Not a b r m = m
 

@@ -1,23 +1,23 @@
--- The laws that a kind of value must have, bits among them; and the values of wires of which some are leaves that read a slot of the random word.
-use mathlib.Core.Path.{_≡_, refl, sym, ap, ap₂, _∙_, subst}
+-- The laws that a kind of value must have, bits among them; and the values of wires of which some are leaves that show a draw.
+use mathlib.Core.Path.{_≡_, refl, sym, ap, ap₂, _∙_}
 use mathlib.Core.Bool.{Bool, true, false, cond}
 use mathlib.Core.Logic.{_⊎_, inl, inr, _≢_}
-use mathlib.Core.List.{List, [], _∷_}
-use Prim.Native.Nat.{ℕ, zero, suc, _+_, _*_, _-_, _/_, _%_, _<_, min, max}
+use mathlib.Core.List.{List, []}
+use Prim.Native.Nat.{ℕ, zero, suc, _+_, _*_, _-_, _/_, _%_, _<_}
 use native.Mathlib.Nat.{not-suc-le-zero, mod-lt, zero-lt-suc}
 use native.Mathlib.Omega.{arith}
 use lib.Arith.{bin-ind}
 use lib.Bits.{bitXor, differ, xor-step, xor-shr, xor-mod, xor-comm, xor-lt, and-lt, xor-self, xor-zero-l}
-use lib.Dec.{eqb, lit<}
+use lib.Dec.{lit<}
 use lib.ListN.{getD}
 use Rattle.document.specs.Routine.{Routine, wire, randsBefore, pubsBefore, operandsOf, operands}
 use Rattle.document.specs.Running.{Value, bit, gives, valueAt}
 use Rattle.document.specs.Padding.{padsOf, pads}
-use Rattle.data.specs.Laws.Tests.{bool-cases, cond-true, cond-false, true-eqb, clash, wire-cases, Mem}
+use Rattle.data.specs.Laws.Tests.{cond-true, cond-false, Mem}
 use Rattle.document.specs.Laws.Marks.{Set, In, Out}
 use Rattle.document.specs.Starts.{upd, valueWithin, leafValue, OneToOne, Small}
 use Rattle.document.specs.Laws.Sums.{upd-same, upd-other, perm-ext}
-use Rattle.document.specs.Laws.Live.{Earlier}
+use Rattle.document.specs.Laws.Live.{xor-pads, Earlier}
 use Rattle.data.specs.declared.Kind.{Kind}
 use Rattle.data.specs.declared.Kind.the-variants.{Share, Rand, Pub, Xor, And, Not}
 
@@ -142,13 +142,7 @@ module _ (K : Value) (law : Lawful K) where
   gives-one-to-one Share x y r m s q p e h = absurd m
   gives-one-to-one Rand x y r m s q p e h = absurd m
   gives-one-to-one Pub x y r m s q p e h = absurd m
-  gives-one-to-one Xor x y r m s q p e h = bool-cases (eqb x y) (λ c. absurd (subst (λ (c : Bool). Mem r (cond c [] (min x y ∷ max x y ∷ []))) c m))
-      (λ c. xor-one-to-one x y r (λ z. clash (true-eqb x y z) c) (either (subst (λ (c : Bool). Mem r (cond c [] (min x y ∷ max x y ∷ []))) c m)) e h)
-    where
-      either : Mem r (min x y ∷ max x y ∷ []) → (r ≡ x) ⊎ (r ≡ y)
-      either (inl q) = wire-cases r x inl (λ d. inr (omega arith))
-      either (inr (inl q)) = wire-cases r x inl (λ d. inr (omega arith))
-      either (inr (inr q)) = absurd q
+  gives-one-to-one Xor x y r m s q p e h = let two = xor-pads x y r m in xor-one-to-one x y r (two .0) (two .1) e h
   gives-one-to-one And x y r m s q p e h = absurd m
   gives-one-to-one Not x y r (inl i) s q p e h = not-one-to-one x r i e
   gives-one-to-one Not x y r (inr i) s q p e h = absurd i
