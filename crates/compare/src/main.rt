@@ -99,15 +99,19 @@ fn say_orders(t: [u64; 104]) {
     say_kind(t, b"sets, drawings counted", tally::NEEDED_DRAWN);
     say_kind(
         t,
-        b"of a plain pass that inverted randoms give",
+        b"sets of a plain pass by inverted randoms, starts counted",
         tally::EVEN_INVERTED,
     );
     say_kind(
         t,
-        b"of a strong pass that inverted randoms give",
+        b"sets of a strong pass by inverted randoms, drawings counted",
         tally::DRAWN_INVERTED,
     );
-    say_kind(t, b"judgements with no not padded", tally::NOTS_KEPT);
+    say_kind(
+        t,
+        b"judgements also made with no not padded",
+        tally::NOTS_KEPT,
+    );
     say_kind(t, b"orders above a plain judgement", tally::LOWER);
     say_kind(t, b"orders above a strong judgement", tally::LOWER_STRONG);
     say_kind(

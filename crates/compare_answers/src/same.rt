@@ -133,6 +133,18 @@ pub fn same_judged(r: Judged, j: judging::Judgement) -> bool {
     }
 }
 
+// What is taken for the place of the first open set where no set is open.
+pub const NEVER: u64 = 18446744073709551615;
+
+// The place of the first open set.
+pub fn open_place(v: Verdict) -> u64 {
+    match v {
+        Verdict::Pass(_) => NEVER,
+        Verdict::Open(count) => count,
+        Verdict::Refused(_) => NEVER,
+    }
+}
+
 pub fn same_bytes(x: &[u8], y: &[u8]) -> bool {
     if x.len() != y.len() {
         return false;

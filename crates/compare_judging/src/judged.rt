@@ -150,27 +150,25 @@ fn has_nots(g: Listing) -> bool {
     (r.starts != 0) & (wires::count_kind(g.shape.n, ws, wires::NOT) != 0)
 }
 
-// With no not padded the first open set comes no later. A pass is held to what it means, and counted apart where padded nots give it.
-fn compare_kept(
-    t: [u64; 104],
-    g: Listing,
-    which: Which,
-    order: usize,
-    own: judging::Judgement,
-) -> [u64; 104] {
-    let kept = judging::judge(judging::with_nots_kept(g), which, order);
-    let no_later = kept.hit & (kept.count <= own.count);
-    let u = tally::compared(t, tally::NOTS_KEPT, no_later | !own.hit);
-    if own.hit {
-        return u;
-    }
-    let v = observe(u, g, which, order);
-    if !kept.hit {
+// The product's judgement with no not padded has its first open set no later. A pass is held to what it means, and counted apart where padded nots give it.
+fn compare_kept(t: [u64; 104], g: Listing, which: Which, order: usize, place: u64) -> [u64; 104] {
+    let places = tally::places_of(which);
+    let h = judging::with_nots_kept(g);
+    let r = judge::judge(h, which, order);
+    let verdict = r.verdict;
+    let kept = same::open_place(verdict);
+    let own = judging::judge(h, which, order);
+    let u = tally::compared(t, places.values, same::same_judged(r, own));
+    let v = tally::compared(u, tally::NOTS_KEPT, kept <= place);
+    if place != same::NEVER {
         return v;
     }
-    let places = tally::places_of(which);
-    let w = tally::more(v, tally::PASS_INVERTED, 1);
-    tally::also(u, w, places.meant, places.inverted)
+    let w = observe(v, g, which, order);
+    if kept == same::NEVER {
+        return w;
+    }
+    let x = tally::more(w, tally::PASS_INVERTED, 1);
+    tally::also(v, x, places.meant, places.inverted)
 }
 
 fn compare_judgement(t: [u64; 104], g: Listing, which: Which, order: usize) -> [u64; 104] {
@@ -185,7 +183,8 @@ fn compare_judgement(t: [u64; 104], g: Listing, which: Which, order: usize) -> [
     }
     let w = tally::outcome(v, places.pass, own.hit);
     if has_nots(g) {
-        return compare_kept(w, g, which, order, own);
+        let verdict = r.verdict;
+        return compare_kept(w, g, which, order, same::open_place(verdict));
     }
     if own.hit {
         return w;
