@@ -152,23 +152,20 @@ fn has_nots(g: Listing) -> bool {
 
 // The product's judgement with no not padded has its first open set no later. A pass is held to what it means, and counted apart where padded nots give it.
 fn compare_kept(t: [u64; 104], g: Listing, which: Which, order: usize, place: u64) -> [u64; 104] {
-    let places = tally::places_of(which);
-    let h = judging::with_nots_kept(g);
-    let r = judge::judge(h, which, order);
+    let r = judge::judge(judging::with_nots_kept(g), which, order);
     let verdict = r.verdict;
     let kept = same::open_place(verdict);
-    let own = judging::judge(h, which, order);
-    let u = tally::compared(t, places.values, same::same_judged(r, own));
-    let v = tally::compared(u, tally::NOTS_KEPT, kept <= place);
+    let u = tally::compared(t, tally::NOTS_KEPT, kept <= place);
     if place != same::NEVER {
+        return u;
+    }
+    let v = observe(u, g, which, order);
+    if kept == same::NEVER {
         return v;
     }
-    let w = observe(v, g, which, order);
-    if kept == same::NEVER {
-        return w;
-    }
-    let x = tally::more(w, tally::PASS_INVERTED, 1);
-    tally::also(v, x, places.meant, places.inverted)
+    let w = tally::more(v, tally::PASS_INVERTED, 1);
+    let places = tally::places_of(which);
+    tally::also(u, w, places.meant, places.inverted)
 }
 
 fn compare_judgement(t: [u64; 104], g: Listing, which: Which, order: usize) -> [u64; 104] {

@@ -121,9 +121,9 @@ fn inverted(t: Listing, seed: u64) -> Listing {
     g
 }
 
-// Of those of up to four shares every second one gets opposites; of the others, whose sets are most, every eighth.
+// Of those of up to three shares every second one gets opposites; of the others, which have many more sets, every eighth.
 fn odds(t: Listing) -> usize {
-    if t.shape.d < 5 {
+    if t.shape.d < 4 {
         return 2;
     }
     8

@@ -58,13 +58,13 @@ fn with_operands(m: Marks, x: Wire) -> Marks {
 
 fn sweep(n: usize, ws: [Wire; 128], leaf: Marks, live: Marks) -> Marks {
     let mut m = live;
-    let mut u = 0;
-    while u < n {
+    let mut u = n;
+    while 0 < u {
+        u -= 1;
         if marks::has(m, u) & !marks::has(leaf, u) {
             let next = with_operands(m, wires::at(ws, u));
             m = next;
         }
-        u += 1;
     }
     m
 }
