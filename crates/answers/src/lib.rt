@@ -1,4 +1,6 @@
 // The lines of the answers, order by order, put into a lent buffer.
+#![tactic(auto)]
+
 ghost use Rattle.std.specs.Prelude.{◌+◌, ◌*◌, ◌≤◌, length};
 ghost use Rattle.buffer.specs.Put.{Put};
 ghost use Rattle.document.specs.Routine.{routine_of};

@@ -1,4 +1,6 @@
 // The tests before a call on one set, in their order.
+#![tactic(auto)]
+
 ghost use Rattle.std.specs.Prelude.{◌≡◌, ◌≤◌, ltb, take};
 ghost use Rattle.data.specs.Basics.{each};
 ghost use Rattle.asking.specs.Checks.{order_in, probes_in, checked};

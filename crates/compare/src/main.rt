@@ -1,4 +1,6 @@
 // Random routines from a fixed seed: every public call of the product compared with an answer found by other means.
+#![tactic(auto)]
+
 use compare_answers::tally;
 use compare_calls::texts;
 use compare_judging::{judged, sets};

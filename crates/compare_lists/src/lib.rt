@@ -1,5 +1,7 @@
 // Arrays by value, lent as the list of each call over a lent list, so that a program can run those calls.
 // Reading takes lists of 130 records and of 127, which is too short; the other calls take one of 100, too short for a routine of more wires.
+#![tactic(auto)]
+
 ghost use Rattle.std.specs.Prelude.{◌≡◌};
 ghost use Rattle.document.specs.Judgements.{judgement_of};
 ghost use Rattle.document.specs.Lent.{lent_needing, lent_padding, lent_judged, ReadsInto, WritesInto, RunsInto};

@@ -1,4 +1,6 @@
 // What each wire is computed from, as words: shares, randoms, and randoms of its own.
+#![tactic(auto)]
+
 ghost use Rattle.std.specs.Prelude.{◌≡◌, true, cond, ◌^◌, ◌≤◌, ◌<◌, eqb, ltb, get_or, take};
 ghost use Rattle.std.specs.Int.Bits.{bit_or};
 ghost use Rattle.document.specs.Routine.{is_rand, records_fit};

@@ -1,4 +1,6 @@
 // How many live consumers that are no leaves each wire has.
+#![tactic(auto)]
+
 ghost use Rattle.std.specs.Prelude.{◌≡◌, ◌<◌, get_or};
 ghost use Rattle.marks.specs.Passes.{Wired, Low};
 ghost use Rattle.consumers.specs.Consumers.{bumped, bumped_two, counted_with, Spare, Consumers};

@@ -1,5 +1,7 @@
 // Records copied between a lent list and an array by value.
 // Every function that has the list is straight-line or one loop, and tests nothing: functions that have an array or numbers decide.
+#![tactic(auto)]
+
 ghost use Rattle.std.specs.Prelude.{◌≡◌, ◌++◌, ◌≤◌, ◌<◌, length, get_or, set, take, drop};
 ghost use Rattle.document.specs.Routine.{blank};
 ghost use Rattle.copies.specs.First.{fetched, clipped, listing_of};

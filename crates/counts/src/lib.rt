@@ -1,4 +1,6 @@
 // How many of the first records are randoms, publics and outputs, and whether that is under the ceilings.
+#![tactic(auto)]
+
 ghost use Rattle.std.specs.Prelude.{◌≡◌, ◌≤◌};
 ghost use Rattle.data.specs.Basics.{one};
 ghost use Rattle.document.specs.Routine.{is_rand, is_pub};

@@ -1,6 +1,8 @@
 // The data that all crates share: wire records, probe sets, steps, answers and refusals; and how probe sets are built.
 // What probe sets and refusals mean is defined in specs/, all else in the crate `document`; the numbers are those of the sentences in
 // docs/SPECIFICATION.md.
+#![tactic(auto)]
+
 ghost use Rattle.std.specs.Prelude.{◌≡◌, ◌+◌, ◌≤◌, ◌<◌, min, take, get_or};
 ghost use Rattle.data.specs.Basics.{elem};
 ghost use Rattle.data.specs.ProbeSets.{ascending, empty_set, may_add, adding};

@@ -1,5 +1,7 @@
 // The desk program: reads one routine text from standard input and prints what is judged of it; where the input cannot be read to its end,
 // or the answer not be written, it says so on standard error instead.
+#![tactic(auto)]
+
 ghost use Rattle.std.specs.Prelude.{length};
 ghost use Rattle.intake.specs.Intake.{InputWithin};
 ghost use Rattle.desk.specs.Answers.{DeskAnswered};

@@ -1,4 +1,6 @@
 // The fields of a line of a routine text: the parts between separators, and a field as a number or a word.
+#![tactic(auto)]
+
 ghost use Rattle.std.specs.Prelude.{◌≡◌, ◌∷◌, [], ◌≤◌, length, take, drop};
 ghost use Rattle.data.specs.Basics.{same};
 ghost use Rattle.document.specs.Lines.{number, digit, lead, word_of};

@@ -1,4 +1,6 @@
 // What a read into a lent list stores and answers, from its text and the list's length: functions that have no list.
+#![tactic(auto)]
+
 ghost use Rattle.std.specs.Prelude.{◌≡◌};
 ghost use Rattle.document.specs.Lent.{read_for, filled};
 

@@ -1,4 +1,6 @@
 // One set of a judgement: how it is grown by a wire, and the bound of what it may need.
+#![tactic(auto)]
+
 ghost use Rattle.std.specs.Prelude.{◌≡◌, ◌∷◌, [], ◌++◌, ◌+◌, ◌≤◌, ◌<◌};
 ghost use Rattle.data.specs.ProbeSets.{held, set_of};
 ghost use Rattle.growing.specs.Growing.{none, nothing_grown, own_with, grown_by, Skipped, Holding, inner_of, bound_of};

@@ -1,4 +1,6 @@
 // An input read to its end, or said to have failed: a part of an input is never handed on as the whole.
+#![tactic(auto)]
+
 ghost use Rattle.std.specs.Prelude.{◌≡◌, ◌+◌, ◌^◌, ◌<◌, length};
 ghost use Rattle.std.specs.Int.Signed.{mag};
 ghost use Rattle.intake.specs.Intake.{after_read, InputEnded};

@@ -1,4 +1,6 @@
 // The judgements: what is found among their sets, as an answer.
+#![tactic(auto)]
+
 ghost use Rattle.std.specs.Prelude.{◌≡◌, ◌≤◌};
 ghost use Rattle.document.specs.Judgements.{judged_not, judgement_of};
 ghost use Rattle.document.specs.Lent.{lent_judged};

@@ -1,6 +1,8 @@
 // The calls over a lent list of wire records.
 // Every function that has the list is straight-line and tests nothing: `copies` copies records to and from listings, and functions that
 // have those decide.
+#![tactic(auto)]
+
 ghost use Rattle.std.specs.Prelude.{◌≡◌};
 ghost use Rattle.document.specs.Judgements.{judgement_of};
 ghost use Rattle.document.specs.Lent.{lent_needing, lent_padding, lent_judged, ReadsInto, WritesInto, RunsInto};

@@ -1,4 +1,6 @@
 // The bytes that a text may have.
+#![tactic(auto)]
+
 ghost use Rattle.std.specs.Prelude.{◌≡◌, true, ◌&&◌, ◌<◌, leb};
 ghost use Rattle.data.specs.Basics.{each};
 ghost use Rattle.document.specs.Reading.{letter};

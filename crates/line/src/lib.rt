@@ -1,4 +1,6 @@
 // The form of one line of a routine text: its word and its numbers.
+#![tactic(auto)]
+
 ghost use Rattle.std.specs.Prelude.{◌≡◌};
 ghost use Rattle.document.specs.Lines.{cut, tab, with1, with2, with3, of1, of2, of3, line_of};
 ghost use Rattle.line.specs.Fields.{after_word, after_first, after_second};

@@ -1,4 +1,6 @@
 // The first line of a text, and the lines behind it one by one.
+#![tactic(auto)]
+
 ghost use Rattle.std.specs.Prelude.{◌≡◌, true, cond, ◌≤◌, ◌<◌, length, drop};
 ghost use Rattle.data.specs.Basics.{each};
 ghost use Rattle.document.specs.Routine.{in_range};

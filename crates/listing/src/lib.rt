@@ -1,4 +1,6 @@
 // The sizes that a routine may have, and the records of a listing without wires.
+#![tactic(auto)]
+
 ghost use Rattle.std.specs.Prelude.{◌≡◌};
 ghost use Rattle.document.specs.Routine.{in_range};
 ghost use Rattle.document.specs.Reading.{blanks};

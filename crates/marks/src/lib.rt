@@ -1,4 +1,6 @@
 // The marks of the padding rule: the first leaves, the probed wires and the live ones.
+#![tactic(auto)]
+
 ghost use Rattle.std.specs.Prelude.{◌≡◌, true, cond, ◌<◌, set};
 ghost use Rattle.data.specs.Basics.{mark};
 ghost use Rattle.data.specs.ProbeSets.{held};

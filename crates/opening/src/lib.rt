@@ -1,4 +1,6 @@
 // Whether a set of a judgement is open.
+#![tactic(auto)]
+
 ghost use Rattle.std.specs.Prelude.{◌≡◌, ◌+◌, ◌^◌, ◌<◌};
 ghost use Rattle.data.specs.ProbeSets.{held};
 ghost use Rattle.growing.specs.Growing.{opens_in, judged_set, Asked};

@@ -1,4 +1,6 @@
 // The lines of a routine's text, one wire at a time: how long they are, and the bytes themselves.
+#![tactic(auto)]
+
 ghost use Rattle.std.specs.Prelude.{◌≡◌, ◌∷◌, [], ◌+◌, ◌≤◌, ◌<◌, length};
 ghost use Rattle.document.specs.Lines.{tab, decimal};
 ghost use Rattle.buffer.specs.Put.{Put};

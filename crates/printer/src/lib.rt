@@ -1,4 +1,6 @@
 // The lines that the desk prints: numbers, fields, the line of an answer and the line of a refused text.
+#![tactic(auto)]
+
 ghost use Rattle.std.specs.Prelude.{◌≡◌, ◌∷◌, ◌++◌, ◌+◌, ◌≤◌, length};
 ghost use Rattle.buffer.specs.Put.{Put};
 ghost use Rattle.data.specs.ProbeSets.{held};

@@ -1,1 +1,3 @@
 // One page of what is promised, theorem by theorem in the order of the demands; it stands in specs/, and nothing here computes.
+#![tactic(auto)]
+

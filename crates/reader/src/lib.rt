@@ -1,4 +1,6 @@
 // Reading a routine text by value.
+#![tactic(auto)]
+
 ghost use Rattle.std.specs.Prelude.{◌≡◌, ◌<◌, length};
 ghost use Rattle.data.specs.Basics.{each};
 ghost use Rattle.document.specs.Reading.{reading};

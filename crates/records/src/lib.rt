@@ -1,4 +1,6 @@
 // The test behind refusal 11: whether S, D, n and the first n records are what a read could have given.
+#![tactic(auto)]
+
 ghost use Rattle.std.specs.Prelude.{◌≡◌, ◌≤◌};
 ghost use Rattle.data.specs.Basics.{all};
 ghost use Rattle.document.specs.Routine.{records_fit};

@@ -1,4 +1,6 @@
 // The report on a routine text: what the desk program prints for it.
+#![tactic(auto)]
+
 ghost use Rattle.std.specs.Prelude.{◌≡◌, ◌-◌, ◌≤◌, min, length};
 ghost use Rattle.buffer.specs.Put.{Put};
 ghost use Rattle.document.specs.Desk.{text_lines};

@@ -1,1 +1,3 @@
 // Reading and writing a routine text undo each other; the theorems stand in specs/, and nothing here computes.
+#![tactic(auto)]
+

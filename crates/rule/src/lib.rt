@@ -1,4 +1,6 @@
 // The padding rule run to its end for a set of observed wires, and the two calls on one probe set.
+#![tactic(auto)]
+
 ghost use Rattle.std.specs.Prelude.{◌≡◌, ◌*◌, ◌<◌, replicate};
 ghost use Rattle.data.specs.Basics.{at};
 ghost use Rattle.document.specs.Reading.{routine_in};

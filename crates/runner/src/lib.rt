@@ -1,4 +1,6 @@
 // Running a routine: 0 or 1 for each of its wires, written into a lent buffer.
+#![tactic(auto)]
+
 ghost use Rattle.std.specs.Prelude.{◌≡◌, ◌++◌, ◌≤◌, ◌<◌, length, get_or, take, drop, set};
 ghost use Rattle.document.specs.Lent.{RunsInto};
 ghost use Rattle.runner.specs.Run.{ran_not, value_from, values};

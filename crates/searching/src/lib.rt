@@ -1,4 +1,6 @@
 // The search of the sets in order, up to the first open one.
+#![tactic(auto)]
+
 ghost use Rattle.std.specs.Prelude.{◌≡◌, ◌-◌, ◌≤◌};
 ghost use Rattle.data.specs.ProbeSets.{held};
 ghost use Rattle.cones.specs.Making.{TablesOf};

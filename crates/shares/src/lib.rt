@@ -1,4 +1,6 @@
 // The word of the live shares, and how many shares each secret has in it.
+#![tactic(auto)]
+
 ghost use Rattle.std.specs.Prelude.{◌≡◌, ◌+◌, ◌*◌, ◌^◌, ◌≤◌, ◌<◌};
 ghost use Rattle.data.specs.Basics.{one, at};
 ghost use Rattle.document.specs.Padding.{word};

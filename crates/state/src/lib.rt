@@ -1,4 +1,6 @@
 // What one line may do to the state of a read: the tests before it, and the state with a wire or an output more.
+#![tactic(auto)]
+
 ghost use Rattle.std.specs.Prelude.{◌≡◌, true, ◌<◌};
 ghost use Rattle.data.specs.Basics.{one};
 ghost use Rattle.document.specs.Routine.{is_rand, is_pub};

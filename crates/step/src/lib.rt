@@ -1,4 +1,6 @@
 // One step of the padding rule: the search for the lowest wire that can be padded, and by what.
+#![tactic(auto)]
+
 ghost use Rattle.std.specs.Prelude.{◌≡◌, cond, [], ◌∷◌, ◌<◌, max};
 ghost use Rattle.std.proofs.Math.Option.{none};
 ghost use Rattle.document.specs.Padding.{pads_of, pads_by, first_pad, lowest_pad, next_step};

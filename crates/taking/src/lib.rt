@@ -1,4 +1,6 @@
 // One line of a routine text against what was read before it.
+#![tactic(auto)]
+
 ghost use Rattle.std.specs.Prelude.{◌≡◌, true};
 ghost use Rattle.document.specs.Reading.{taken, not_taken, make, mark_out, take_line};
 ghost use Rattle.state.specs.Ceilings.{UnderCeilings};

@@ -1,4 +1,6 @@
 // One judgement at one order, to be timed alone. The input is what is asked, as in `strong 4`, a zero byte and a routine's text.
+#![tactic(auto)]
+
 use data::Which;
 use test_show::{say, say_verdict};
 

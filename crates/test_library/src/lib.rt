@@ -1,4 +1,6 @@
 // The README's example of use as a library: a caller that reads a text and asks whether it passes the plain judgement of order 2.
+#![tactic(auto)]
+
 ghost use Rattle.std.specs.Prelude.{◌≡◌};
 ghost use Rattle.document.specs.Judgements.{told};
 ghost use Rattle.test_library.specs.Passing.{passes_plain2};

@@ -1,4 +1,6 @@
 // Routines from standard input, each ended by a zero byte: what the judgements and the set calls answer for each, and some additions, printed.
+#![tactic(auto)]
+
 use data::{Listing, Outcome, ProbeSet, Shape, Step, Which};
 use test_show::{say, say_number, say_set, show_judged, wide, wide_byte};
 

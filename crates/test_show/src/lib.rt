@@ -1,4 +1,6 @@
 // Words and numbers on standard output, for the programs that run the calls and compare what they answer.
+#![tactic(auto)]
+
 ghost use Rattle.std.specs.Prelude.{◌+◌, ◌≤◌, length};
 
 use data::{Judged, Outcome, ProbeSet, Verdict};

@@ -1,4 +1,6 @@
 // Texts from standard input, parted by a zero byte: what reading, writing and running answer for each, printed.
+#![tactic(auto)]
+
 use data::{Listing, Outcome, Ran, Shape, Wire, Written};
 use test_show::{outcome_number, say, say_number, wide, wide_byte};
 

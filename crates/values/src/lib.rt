@@ -1,4 +1,6 @@
 // The bits that a run deals with: those of the lent words, and what a wire gives.
+#![tactic(auto)]
+
 ghost use Rattle.std.specs.Prelude.{◌≡◌, ◌-◌, ◌^◌, ◌≤◌, ltb, get_or};
 ghost use Rattle.document.specs.Running.{bit, gives, bits};
 ghost use Rattle.values.specs.Words.{SmallCounts, words_fit};

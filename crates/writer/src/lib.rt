@@ -1,4 +1,6 @@
 // Writing a routine: its text, put into a lent buffer.
+#![tactic(auto)]
+
 ghost use Rattle.std.specs.Prelude.{◌≡◌, ◌+◌, ◌*◌, ◌≤◌, length};
 ghost use Rattle.document.specs.Lent.{WritesInto};
 ghost use Rattle.records.specs.Records.{Fit};

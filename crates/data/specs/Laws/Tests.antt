@@ -222,7 +222,7 @@ tally_skip f a n h none = le_ind (λ (j : ℕ). a + tally j f ≤ j) (none_first
 one_apart : (a b : Bool) → (a ≡ true → b ≡ false) → one a + one b ≤ one (a || b)
 one_apart true true h = clash refl (h refl)
 one_apart true false h = le_refl 1
-one_apart false b h = le_refl (one b)
+one_apart false b h = omega arith
 
 -- of two tests that no number passes both
 pub tally_apart : (n : ℕ) (f g : ℕ → Bool) → ((k : ℕ) → k < n → f k ≡ true → g k ≡ false) → tally n f + tally n g ≤ tally n (λ k. f k || g k)

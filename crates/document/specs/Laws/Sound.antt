@@ -131,12 +131,11 @@ is_other R w = leb (R.S * R.D) w && not (is_rand (wire R w).kind)
 
 -- a wire that has something to be padded by is one
 pub padded_other : (R : Routine) → Sound R → (w r : ℕ) → Mem r (pads R w) → is_other R w ≡ true
-unfolding is_other pads
+unfolding is_other pads pads_of
 padded_other R so w r m = and_i (leb (R.S * R.D) w) (not (is_rand (wire R w).kind))
     (go (dec_le (R.S * R.D) w)) (no_random (wire R w).kind (wire R w).a (wire R w).b m)
   where
     no_random : (k : Kind) (a b : ℕ) → Mem r (pads_of k a b) → not (is_rand k) ≡ true
-    unfolding pads_of
     no_random Share a b m = refl
     no_random Rand a b m = absurd m
     no_random Pub a b m = refl
@@ -145,7 +144,6 @@ padded_other R so w r m = and_i (leb (R.S * R.D) w) (not (is_rand (wire R w).kin
     no_random Not a b m = refl
 
     no_share : (k : Kind) (a b : ℕ) → Mem r (pads_of k a b) → k ≡ Share → ⊥
-    unfolding pads_of
     no_share k a b m e = subst (λ (k : Kind). Mem r (pads_of k a b)) e m
 
     go : Dec (R.S * R.D ≤ w) → leb (R.S * R.D) w ≡ true
