@@ -78,7 +78,7 @@ pub const STRONG_OPEN: usize = 102;
 pub const PASS_INVERTED: usize = 103;
 
 // Where a judgement is counted: on values, over a list, its passes, and the sets of a pass, also of one that inverted randoms give.
-#[derive(Drop)]
+#[derive(Clone, Copy)]
 pub struct Places {
     pub values: usize,
     pub list: usize,

@@ -76,7 +76,7 @@ pub fn write(g: Listing, listed: bool, buf: &mut [u8]) -> Written {
 }
 
 // The words of bits of a run.
-#[derive(Drop)]
+#[derive(Clone, Copy)]
 pub struct Bits {
     pub shares: u64,
     pub randoms: u64,

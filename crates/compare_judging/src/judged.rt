@@ -184,7 +184,7 @@ fn compare_judgement(t: [u64; 104], g: Listing, which: Which, order: usize) -> [
 }
 
 // Which judgements are open, at an order or at some order below it.
-#[derive(Drop)]
+#[derive(Clone, Copy)]
 struct Opened {
     plain: bool,
     strong: bool,

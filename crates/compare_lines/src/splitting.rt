@@ -4,7 +4,7 @@ use data::{Kind, Wire};
 
 // What the bytes of the line have shown: of the field at hand its length, its letters in a word and its digits in a number;
 // of the fields before it how many, the word, whether the numbers were good, and the numbers.
-#[derive(Drop)]
+#[derive(Clone, Copy)]
 pub struct Split {
     pub len: usize,
     pub letters: u64,
@@ -20,7 +20,7 @@ pub struct Split {
 }
 
 // What the lines have given. The refusal is its number, or 0.
-#[derive(Drop)]
+#[derive(Clone, Copy)]
 pub struct Text {
     pub refusal: u64,
     pub line: usize,

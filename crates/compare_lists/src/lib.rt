@@ -11,14 +11,14 @@ use data::{Filled, Judged, Needed, Padded, ProbeSet, Ran, Shape, Which, Wire, Wr
 // ---- reading
 
 // After a read: its answer, and the list.
-#[derive(Drop)]
+#[derive(Clone, Copy)]
 pub struct After {
     pub answer: Filled,
     pub list: [Wire; 130],
 }
 
 // After a read into too short a list.
-#[derive(Drop)]
+#[derive(Clone, Copy)]
 pub struct AfterShort {
     pub answer: Filled,
     pub list: [Wire; 127],

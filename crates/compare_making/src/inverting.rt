@@ -4,7 +4,7 @@ use compare_lines::wires;
 use data::{Listing, Shape, Wire};
 
 // A routine in the making, and which of its wires stands for each wire of the one that it is made of.
-#[derive(Drop)]
+#[derive(Clone, Copy)]
 struct Copy {
     draft: Listing,
     stands: [u8; 128],

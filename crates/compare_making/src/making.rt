@@ -4,7 +4,7 @@ use compare_lines::{splitting, wires};
 use data::{Kind, Listing, Shape, Wire};
 
 // A routine in the making and the wires that hold the D shares of a value.
-#[derive(Drop)]
+#[derive(Clone, Copy)]
 struct Bundle {
     draft: Listing,
     wires: [u8; 8],

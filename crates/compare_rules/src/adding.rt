@@ -70,7 +70,7 @@ fn settled(places: [u8; 4], end: usize) -> [u8; 4] {
     p
 }
 
-#[derive(Drop)]
+#[derive(Clone, Copy)]
 pub struct Addition {
     pub refused: bool,
     pub set: ProbeSet,

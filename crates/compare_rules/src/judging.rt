@@ -84,7 +84,7 @@ pub fn inner(ws: [Wire; 128], set: ProbeSet) -> usize {
 }
 
 // What is judged: the routine, the order and which judgement.
-#[derive(Drop)]
+#[derive(Clone, Copy)]
 struct Case {
     strong: bool,
     d: usize,
@@ -106,7 +106,7 @@ fn is_open(c: Case, set: ProbeSet) -> bool {
 }
 
 // A refusal or 0, whether a set was open, how many were judged, and that set.
-#[derive(Drop)]
+#[derive(Clone, Copy)]
 pub struct Judgement {
     pub refusal: u64,
     pub hit: bool,

@@ -6,7 +6,7 @@ use compare_texts::{marks, spelling};
 use data::{Kind, Listing, ProbeSet, Shape, Step, Wire};
 
 // A step, if one was found.
-#[derive(Drop)]
+#[derive(Clone, Copy)]
 struct Pad {
     found: bool,
     w: usize,
@@ -14,7 +14,7 @@ struct Pad {
 }
 
 // All steps of a set, and the wires that are live at their end.
-#[derive(Drop)]
+#[derive(Clone, Copy)]
 pub struct Padding {
     pub len: usize,
     pub steps: [Step; 128],
@@ -287,7 +287,7 @@ pub fn is_over(total: usize, d: usize, word: u64, bound: usize) -> bool {
 }
 
 // The answer for one set of the padding calls: a refusal or 0, the needed shares, the steps, and whether it is plain-open.
-#[derive(Drop)]
+#[derive(Clone, Copy)]
 pub struct Answer {
     pub refusal: u64,
     pub shares: u64,

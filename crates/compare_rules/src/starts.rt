@@ -8,7 +8,7 @@ use data::{Listing, ProbeSet, Shape};
 const ALWAYS: usize = 63;
 
 // A small routine; how many shares, randoms and starts it has.
-#[derive(Drop)]
+#[derive(Clone, Copy)]
 pub struct Small {
     pub listing: Listing,
     pub total: usize,

@@ -1,5 +1,5 @@
 // Marks on 128 wires, in two words.
-#[derive(Drop)]
+#[derive(Clone, Copy)]
 pub struct Marks {
     pub low: u64,
     pub high: u64,

@@ -164,7 +164,7 @@ pub fn could_be_read(listing: Listing) -> bool {
 }
 
 // `write`: the refusal or 0; the buffer keeps its content where it is refused.
-#[derive(Drop)]
+#[derive(Clone, Copy)]
 pub struct Spelled {
     pub refusal: u64,
     pub len: usize,

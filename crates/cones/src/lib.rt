@@ -13,7 +13,7 @@ use counts::Counts;
 use data::{Kind, Listing, Shape, Wire};
 
 // A word for each wire: the shares in its cone, the randoms in its cone, and its own randoms.
-#[derive(Drop)]
+#[derive(Clone, Copy)]
 pub struct Tables {
     pub shares: [u64; 128],
     pub rands: [u64; 128],

@@ -9,7 +9,7 @@ ghost use Rattle.counts.specs.Counting.{counts_of, with_record, Room, ceilings_m
 use data::{Kind, Wire};
 
 // How many of the first records are randoms, publics and outputs.
-#[derive(Drop)]
+#[derive(Clone, Copy)]
 pub struct Counts {
     pub rands: usize,
     pub pubs: usize,

@@ -19,7 +19,7 @@ pub const SPACE: u8 = 32;
 pub const ZERO: u8 = 48;
 
 // 1.24: what makes a wire.
-#[derive(Drop)]
+#[derive(Clone, Copy)]
 pub enum Kind {
     Share,
     Rand,
@@ -30,7 +30,7 @@ pub enum Kind {
 }
 
 // 1.24: a wire record has its kind, two operands (of a share: secret and share number) and the output mark.
-#[derive(Drop)]
+#[derive(Clone, Copy)]
 pub struct Wire {
     pub kind: Kind,
     pub a: u8,
@@ -39,7 +39,7 @@ pub struct Wire {
 }
 
 // 6.1: the sizes of a routine, S secrets of D shares each and n wires.
-#[derive(Drop)]
+#[derive(Clone, Copy)]
 pub struct Shape {
     pub s: usize,
     pub d: usize,
@@ -47,21 +47,21 @@ pub struct Shape {
 }
 
 // 6.2: a routine by value has its sizes, and its records, of which the first n matter.
-#[derive(Drop)]
+#[derive(Clone, Copy)]
 pub struct Listing {
     pub shape: Shape,
     pub wires: [Wire; 128],
 }
 
 // 1.6: a field read as a number, decimal, of one to three digits.
-#[derive(Drop)]
+#[derive(Clone, Copy)]
 pub enum Number {
     Bad,
     Is(usize),
 }
 
 // 1.8: a field read as a word.
-#[derive(Drop)]
+#[derive(Clone, Copy)]
 pub enum Word {
     Other,
     Routine,
@@ -74,7 +74,7 @@ pub enum Word {
 }
 
 // 1.9, 1.10: a line by its form, its word and its numbers, or none that a routine text has.
-#[derive(Drop)]
+#[derive(Clone, Copy)]
 pub enum Line {
     Bad,
     Head(usize, usize),
@@ -87,7 +87,7 @@ pub enum Line {
 }
 
 // 7.1 to 7.16: the refusals, in the order of their numbers.
-#[derive(Drop)]
+#[derive(Clone, Copy)]
 pub enum Refusal {
     Length,
     Byte,
@@ -108,14 +108,14 @@ pub enum Refusal {
 }
 
 // 1.36: what became of a call that has nothing to count.
-#[derive(Drop)]
+#[derive(Clone, Copy)]
 pub enum Outcome {
     Done,
     Refused(Refusal),
 }
 
 // 1.41: what was read so far, S, D, n, how many randoms, publics and outputs, one above the last output (0 before any), and the records.
-#[derive(Drop)]
+#[derive(Clone, Copy)]
 pub struct State {
     pub s: usize,
     pub d: usize,
@@ -128,14 +128,14 @@ pub struct State {
 }
 
 // 1.41: what became of one line, and the state after it.
-#[derive(Drop)]
+#[derive(Clone, Copy)]
 pub struct Taken {
     pub outcome: Outcome,
     pub state: State,
 }
 
 // 1.36: a read routine, or a refusal with the line at fault.
-#[derive(Drop)]
+#[derive(Clone, Copy)]
 pub struct Read {
     pub outcome: Outcome,
     pub line: usize,
@@ -143,7 +143,7 @@ pub struct Read {
 }
 
 // 6.7: what became of a read into a lent list, which has the records.
-#[derive(Drop)]
+#[derive(Clone, Copy)]
 pub struct Filled {
     pub outcome: Outcome,
     pub line: usize,
@@ -151,42 +151,42 @@ pub struct Filled {
 }
 
 // 6.11: what became of a writing, and how many bytes it wrote.
-#[derive(Drop)]
+#[derive(Clone, Copy)]
 pub struct Written {
     pub outcome: Outcome,
     pub len: usize,
 }
 
 // 2.7: what became of a run, and how many bytes it wrote.
-#[derive(Drop)]
+#[derive(Clone, Copy)]
 pub struct Ran {
     pub outcome: Outcome,
     pub len: usize,
 }
 
 // 4.1: up to four wire numbers, in the first `len` places.
-#[derive(Drop)]
+#[derive(Clone, Copy)]
 pub struct ProbeSet {
     pub places: [u8; 4],
     pub len: usize,
 }
 
 // 4.5: a set handed back by an addition, with what became of the addition.
-#[derive(Drop)]
+#[derive(Clone, Copy)]
 pub struct Added {
     pub outcome: Outcome,
     pub set: ProbeSet,
 }
 
 // 3.19: a padding step, wire w made a leaf by its operand r.
-#[derive(Drop)]
+#[derive(Clone, Copy)]
 pub struct Step {
     pub w: u8,
     pub r: u8,
 }
 
 // 5.22, 5.23: the needed shares of one set, bit k for wire k; undecided says that the set is plain-open at the order.
-#[derive(Drop)]
+#[derive(Clone, Copy)]
 pub struct Needed {
     pub outcome: Outcome,
     pub shares: u64,
@@ -194,7 +194,7 @@ pub struct Needed {
 }
 
 // 5.22, 5.25: the steps of one set, in the first `len` pairs; the others are 0, 0.
-#[derive(Drop)]
+#[derive(Clone, Copy)]
 pub struct Padded {
     pub outcome: Outcome,
     pub steps: [Step; 128],
@@ -203,14 +203,14 @@ pub struct Padded {
 }
 
 // 5.3, 5.4: which judgement is asked for.
-#[derive(Drop)]
+#[derive(Clone, Copy)]
 pub enum Which {
     Plain,
     Strong,
 }
 
 // 5.13, 5.14: the verdict of a judgement, with the count of sets judged, the open one included.
-#[derive(Drop)]
+#[derive(Clone, Copy)]
 pub enum Verdict {
     Pass(u64),
     Open(u64),
@@ -218,7 +218,7 @@ pub enum Verdict {
 }
 
 // 5.14, 5.15: a judgement's answer; the set is empty unless the verdict is open.
-#[derive(Drop)]
+#[derive(Clone, Copy)]
 pub struct Judged {
     pub verdict: Verdict,
     pub set: ProbeSet,

@@ -1,3 +1,2 @@
 // The definitions of docs/SPECIFICATION.md and the theorems about them stand in specs/; nothing here computes.
 #![tactic(auto)]
-

@@ -9,7 +9,7 @@ use data::{Listing, ProbeSet, Which};
 
 // What a search goes by from its first set to its last: the judgement, the routine and the order.
 // Its tables are lent beside it, because a function over a struct that holds references is proved by hand.
-#[derive(Drop)]
+#[derive(Clone, Copy)]
 pub struct Question {
     pub which: Which,
     pub listing: Listing,
@@ -17,7 +17,7 @@ pub struct Question {
 }
 
 // What a search found: whether an open set, how many sets were judged, and the open set (empty if none).
-#[derive(Drop)]
+#[derive(Clone, Copy)]
 pub struct Found {
     pub hit: bool,
     pub count: u64,
@@ -25,7 +25,7 @@ pub struct Found {
 }
 
 // A growing set with what is seen of it: the shares and randoms in its cones, and the randoms own to one of its wires.
-#[derive(Drop)]
+#[derive(Clone, Copy)]
 pub struct Grown {
     pub set: ProbeSet,
     pub shares: u64,

@@ -6,7 +6,7 @@ ghost use Rattle.std.specs.Int.Signed.{mag};
 ghost use Rattle.intake.specs.Intake.{after_read, InputEnded};
 
 // Where an input stands after a read: n bytes are there and more may come, those n are all of it, or the read failed.
-#[derive(Drop)]
+#[derive(Clone, Copy)]
 pub enum Stand {
     More(usize),
     All(usize),
@@ -14,14 +14,14 @@ pub enum Stand {
 }
 
 // An input in a buffer: whole in its first n bytes, or not there to be judged.
-#[derive(Drop)]
+#[derive(Clone, Copy)]
 pub enum Input {
     Whole(usize),
     Failed,
 }
 
 // What became of an input, and the last read, which says why: how many bytes there were before it, and what it answered.
-#[derive(Drop)]
+#[derive(Clone, Copy)]
 pub struct Intake {
     pub input: Input,
     pub done: usize,

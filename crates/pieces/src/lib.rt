@@ -9,7 +9,7 @@ ghost use Rattle.pieces.specs.Pieces.{line1, line2, line3, of_kind, of_mark, pie
 use data::{Kind, Wire};
 
 // The two groups of lines behind the first: those that make wires, and the `out` lines.
-#[derive(Drop)]
+#[derive(Clone, Copy)]
 pub enum Part {
     Wires,
     Outputs,

@@ -17,7 +17,7 @@ use data::{Listing, Needed, Outcome, Padded, ProbeSet, Refusal, Shape, Step, Wir
 use step::Next;
 
 // A run of the rule so far: the leaves, and the steps noted.
-#[derive(Drop)]
+#[derive(Clone, Copy)]
 pub struct Run {
     pub leaf: [bool; 128],
     pub steps: [Step; 128],
@@ -25,7 +25,7 @@ pub struct Run {
 }
 
 // What one set comes to: the steps of its run, its needed shares, and whether it is plain-open at the order.
-#[derive(Drop)]
+#[derive(Clone, Copy)]
 pub struct Observed {
     pub steps: [Step; 128],
     pub len: usize,

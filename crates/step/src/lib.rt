@@ -11,7 +11,7 @@ ghost use Rattle.step.specs.Next.{step_in, serves_by, SearchFits};
 use data::{Kind, Step, Wire};
 
 // What a search for the next step found.
-#[derive(Drop)]
+#[derive(Clone, Copy)]
 pub enum Next {
     End,
     Pad(Step),

@@ -9,7 +9,7 @@ use Rattle.std.proofs.lemmas.List.{length-replicate}
 use Rattle.data.specs.Basics.{tally, at}
 use Rattle.document.specs.Routine.{Routine, size}
 use Rattle.data.specs.ProbeSets.{insert, Asc}
-use Rattle.document.specs.Padding.{unmarked, probed as probedMarks, first_leaves, live, steps_from, steps, last_leaves, live_at_end}
+use Rattle.document.specs.Padding.{unmarked, probed as probedMarks, first_leaves, steps, last_leaves, live_at_end}
 use Rattle.document.specs.Padding.{word, needed_shares, bits_of, needed_of}
 use Rattle.data.specs.Laws.Tests.{clash, ltb_true, ltb_false, tally_more, tally_spare, Mem}
 use Rattle.document.specs.Laws.Marks.{In, mark_length_lem, mark_cases, mark_marks, none_marked}
