@@ -6,7 +6,7 @@ use native.Mathlib.Omega.{arith}
 use lib.IntN.{ℤ, pos, negsuc, nat_abs}
 use lib.Dec.{T}
 use lib.Signed.{mag, lt_z, non_neg}
-use borrow.Author.Tests.{ltb_true, ltb_false}
+use borrow.Author.Tests.{ltb-true, ltb-false}
 use Rattle.libc.specs.Io.{Moved}
 use Rattle.intake.specs.Intake.{after_read}
 use Rattle.intake.specs.declared.Stand.{Stand}
@@ -27,19 +27,19 @@ above_mag (negsuc n) e = absurd (subst T (sym e) tt)
 
 pub above_more : (done : ℕ) (z : ℤ) → lt_z (pos 0) z ≡ true → Stands.More (done + nat_abs z) ≡ after_read done z
 unfolding after_read
-above_more done (pos zero) e = absurd (none 0 (ltb_true 0 0 e))
+above_more done (pos zero) e = absurd (none 0 (ltb-true 0 0 e))
 above_more done (pos (suc k)) e = refl
 above_more done (negsuc k) e = absurd (subst T (sym e) tt)
 
 pub below_failed : (done : ℕ) (z : ℤ) → lt_z z (pos 0) ≡ true → Stands.Failed ≡ after_read done z
 unfolding after_read
-below_failed done (pos n) e = absurd (none n (ltb_true n 0 e))
+below_failed done (pos n) e = absurd (none n (ltb-true n 0 e))
 below_failed done (negsuc n) e = refl
 
 pub neither_all : (done : ℕ) (z : ℤ) → lt_z (pos 0) z ≡ false → lt_z z (pos 0) ≡ false → Stands.All done ≡ after_read done z
 unfolding after_read
 neither_all done (pos zero) e f = refl
-neither_all done (pos (suc k)) e f = absurd (none k (ltb_false 0 (suc k) e))
+neither_all done (pos (suc k)) e f = absurd (none k (ltb-false 0 (suc k) e))
 neither_all done (negsuc k) e f = absurd (subst T f tt)
 
 -- ---- by what a read may answer

@@ -9,7 +9,7 @@ use native.Mathlib.Numerals.{add-one}
 use lib.Dec.{leb, lit≤}
 use lib.ListN.{length, take, drop, set, length-drop}
 use lib.Seq.{drop-drop}
-use borrow.Author.Tests.{leb_true}
+use borrow.Author.Tests.{leb-true}
 use Rattle.data.specs.Laws.Tests.{and_l, and_r}
 use Rattle.document.specs.Routine.{in_range}
 use Rattle.document.specs.Lines.{cut, heads, lf, line_of, lines_in}
@@ -37,9 +37,9 @@ range_is s d h =
     let x = leb 1 s && leb s 8 in
     let e = and_l (x && leb 2 d) (leb d 8) h in
     record {
-      secrets = leb_true _ _ (and_r (leb 1 s) (leb s 8) (and_l x (leb 2 d) e));
-      some_shares = leb_true _ _ (and_r x (leb 2 d) e);
-      few_shares = leb_true _ _ (and_r (x && leb 2 d) (leb d 8) h);
+      secrets = leb-true _ _ (and_r (leb 1 s) (leb s 8) (and_l x (leb 2 d) e));
+      some_shares = leb-true _ _ (and_r x (leb 2 d) e);
+      few_shares = leb-true _ _ (and_r (x && leb 2 d) (leb d 8) h);
     }
 
 pub few_shares : (s d : ℕ) → ShareCounts s d → s * d ≤ 64

@@ -1,6 +1,6 @@
 -- The printed lines (8.7 to 8.9) in the order of the code, field by field.
 use Rattle.std.specs.Prelude.{◌≡◌, refl, List, [], ◌∷◌, ◌++◌, map, ℕ, ◌+◌, ◌<◌, min, length, take, get_or, leb}
-use Rattle.std.proofs.Common.{sym, ap, ◌∙◌, append_assoc, append-nil, add-one, arith, leb_false, take-suc, take_all}
+use Rattle.std.proofs.Common.{sym, ap, ◌∙◌, append_assoc, append-nil, add-one, arith, leb-false, take-suc, take_all}
 use Rattle.data.specs.Laws.Tests.{bool_cases, leb_true}
 use Rattle.document.specs.Lines.{lf, join}
 use Rattle.data.specs.ProbeSets.{held}
@@ -80,4 +80,4 @@ pub held_whole : (places : List ℕ) (len i : ℕ) → length places ≡ 4 → i
 held_whole places len i l e =
     bool_cases (leb len 4)
     (λ t. let z = leb_true len 4 t in let y : i ≡ len = omega arith in ap (λ (k : ℕ). take k places) y)
-    (λ f. let z = leb_false len 4 f in take_all i places (omega arith) ∙ sym (take_all len places (omega arith)))
+    (λ f. let z = leb-false len 4 f in take_all i places (omega arith) ∙ sym (take_all len places (omega arith)))

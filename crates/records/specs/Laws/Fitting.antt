@@ -1,6 +1,6 @@
 -- What a caller may take from a passed test of refusal 11.
 use Rattle.std.specs.Prelude.{◌≡◌, refl, Bool, true, ◌&&◌, List, [], ℕ, ◌*◌, ◌/◌, ◌%◌, ◌≤◌, ◌<◌, eqb, ltb, leb, length}
-use Rattle.std.proofs.Common.{sym, ◌∙◌, div-le_self, arith, leb_true, ltb_true, ltb_false, eqb_true, length-take-le}
+use Rattle.std.proofs.Common.{sym, ◌∙◌, div-le_self, arith, leb-true, ltb-true, ltb-false, eqb-true, length-take-le}
 use Rattle.std.proofs.Math.Nat.{mod-le}
 use Rattle.data.specs.Basics.{all}
 use Rattle.document.specs.Routine.{in_range, fits, routine_of, well_formed, records_fit}
@@ -15,7 +15,7 @@ use Rattle.records.specs.Laws.Parts.{in_range_lem, fit_is}
 
 pub long_of : (σ : Shape) (ws : List Wire) → records_fit σ ws ≡ true → σ.n ≤ length ws
 unfolding records_fit
-long_of σ ws e = leb_true σ.n (length ws) (and_l (leb σ.n (length ws)) (well_formed (routine_of σ ws)) e)
+long_of σ ws e = leb-true σ.n (length ws) (and_l (leb σ.n (length ws)) (well_formed (routine_of σ ws)) e)
 
 pub fit_of : (σ : Shape) (ws : List Wire) → records_fit σ ws ≡ true → Fit σ ws
 fit_of σ ws e =
@@ -32,12 +32,12 @@ fit_of σ ws e =
     record {
       range = in_range_lem σ.s σ.d (and_l (in_range σ.s σ.d) (leb (σ.s * σ.d) σ.n) front);
       long = long;
-      few = leb_true σ.n 128 (and_l (leb σ.n 128) rs (and_l (leb σ.n 128 && rs) ps three));
+      few = leb-true σ.n 128 (and_l (leb σ.n 128) rs (and_l (leb σ.n 128 && rs) ps three));
       sized = length-take-le σ.n ws long;
-      shares_in = leb_true (σ.s * σ.d) σ.n (and_r (in_range σ.s σ.d) (leb (σ.s * σ.d) σ.n) front);
-      rands_few = leb_true (counts_of σ.n ws).rands 64 (and_r (leb σ.n 128) rs (and_l (leb σ.n 128 && rs) ps three));
-      pubs_few = leb_true (counts_of σ.n ws).pubs 16 (and_r (leb σ.n 128 && rs) ps three);
-      outs_few = leb_true (counts_of σ.n ws).outs 64 (and_r (leb σ.n 128 && rs && ps) os ceils);
+      shares_in = leb-true (σ.s * σ.d) σ.n (and_r (in_range σ.s σ.d) (leb (σ.s * σ.d) σ.n) front);
+      rands_few = leb-true (counts_of σ.n ws).rands 64 (and_r (leb σ.n 128) rs (and_l (leb σ.n 128 && rs) ps three));
+      pubs_few = leb-true (counts_of σ.n ws).pubs 16 (and_r (leb σ.n 128 && rs) ps three);
+      outs_few = leb-true (counts_of σ.n ws).outs 64 (and_r (leb σ.n 128 && rs && ps) os ceils);
       fitting = all_at σ.n (λ w. fits_at σ.s σ.d w (record_at ws w))
           (and_r (in_range σ.s σ.d && leb (σ.s * σ.d) σ.n && (leb σ.n 128 && rs && ps && os)) every whole);
     }
@@ -57,15 +57,15 @@ test_3 p q r e = and_r (p && q) r e
 share_only : (s d w a b : ℕ) (k : Kind) → fits (routine_of (record { s = s; d = d; n = 0 }) []) w k a b ≡ true → w < s * d → k ≡ Share
 unfolding fits
 share_only s d w a b Share e h = refl
-share_only s d w a b Rand e h = let z = leb_true (s * d) w (test_1 (leb (s * d) w) (eqb a 0) (eqb b 0) e) in let x : ⊥ = omega arith in absurd x
-share_only s d w a b Pub e h = let z = leb_true (s * d) w (test_1 (leb (s * d) w) (eqb a 0) (eqb b 0) e) in let x : ⊥ = omega arith in absurd x
-share_only s d w a b Xor e h = let z = leb_true (s * d) w (test_1 (leb (s * d) w) (ltb a w) (ltb b w) e) in let x : ⊥ = omega arith in absurd x
-share_only s d w a b And e h = let z = leb_true (s * d) w (test_1 (leb (s * d) w) (ltb a w) (ltb b w) e) in let x : ⊥ = omega arith in absurd x
-share_only s d w a b Not e h = let z = leb_true (s * d) w (test_1 (leb (s * d) w) (ltb a w) (eqb b 0) e) in let x : ⊥ = omega arith in absurd x
+share_only s d w a b Rand e h = let z = leb-true (s * d) w (test_1 (leb (s * d) w) (eqb a 0) (eqb b 0) e) in let x : ⊥ = omega arith in absurd x
+share_only s d w a b Pub e h = let z = leb-true (s * d) w (test_1 (leb (s * d) w) (eqb a 0) (eqb b 0) e) in let x : ⊥ = omega arith in absurd x
+share_only s d w a b Xor e h = let z = leb-true (s * d) w (test_1 (leb (s * d) w) (ltb a w) (ltb b w) e) in let x : ⊥ = omega arith in absurd x
+share_only s d w a b And e h = let z = leb-true (s * d) w (test_1 (leb (s * d) w) (ltb a w) (ltb b w) e) in let x : ⊥ = omega arith in absurd x
+share_only s d w a b Not e h = let z = leb-true (s * d) w (test_1 (leb (s * d) w) (ltb a w) (eqb b 0) e) in let x : ⊥ = omega arith in absurd x
 
 share_below : (s d w a b : ℕ) (k : Kind) → fits (routine_of (record { s = s; d = d; n = 0 }) []) w k a b ≡ true → k ≡ Share → w < s * d
 unfolding fits
-share_below s d w a b Share e h = ltb_true w (s * d) (test_1 (ltb w (s * d)) (eqb a (w / d)) (eqb b (w % d)) e)
+share_below s d w a b Share e h = ltb-true w (s * d) (test_1 (ltb w (s * d)) (eqb a (w / d)) (eqb b (w % d)) e)
 share_below s d w a b Rand e h = let z : ◌≡◌ {A = ℕ} 0 1 = cc in let x : ⊥ = omega arith in absurd x
 share_below s d w a b Pub e h = let z : ◌≡◌ {A = ℕ} 0 1 = cc in let x : ⊥ = omega arith in absurd x
 share_below s d w a b Xor e h = let z : ◌≡◌ {A = ℕ} 0 1 = cc in let x : ⊥ = omega arith in absurd x
@@ -75,30 +75,30 @@ share_below s d w a b Not e h = let z : ◌≡◌ {A = ℕ} 0 1 = cc in let x : 
 -- the operands of a wire that is no share are earlier wires, or 0
 a_below : (s d w a b : ℕ) (k : Kind) → fits (routine_of (record { s = s; d = d; n = 0 }) []) w k a b ≡ true → 0 < s * d → s * d ≤ w → a < w
 unfolding fits
-a_below s d w a b Share e p h = let z = ltb_true w (s * d) (test_1 (ltb w (s * d)) (eqb a (w / d)) (eqb b (w % d)) e) in let y : ⊥ = omega arith in absurd y
-a_below s d w a b Rand e p h = let z = eqb_true a 0 (test_2 (leb (s * d) w) (eqb a 0) (eqb b 0) e) in omega arith
-a_below s d w a b Pub e p h = let z = eqb_true a 0 (test_2 (leb (s * d) w) (eqb a 0) (eqb b 0) e) in omega arith
-a_below s d w a b Xor e p h = let z = ltb_true a w (test_2 (leb (s * d) w) (ltb a w) (ltb b w) e) in omega arith
-a_below s d w a b And e p h = let z = ltb_true a w (test_2 (leb (s * d) w) (ltb a w) (ltb b w) e) in omega arith
-a_below s d w a b Not e p h = let z = ltb_true a w (test_2 (leb (s * d) w) (ltb a w) (eqb b 0) e) in omega arith
+a_below s d w a b Share e p h = let z = ltb-true w (s * d) (test_1 (ltb w (s * d)) (eqb a (w / d)) (eqb b (w % d)) e) in let y : ⊥ = omega arith in absurd y
+a_below s d w a b Rand e p h = let z = eqb-true a 0 (test_2 (leb (s * d) w) (eqb a 0) (eqb b 0) e) in omega arith
+a_below s d w a b Pub e p h = let z = eqb-true a 0 (test_2 (leb (s * d) w) (eqb a 0) (eqb b 0) e) in omega arith
+a_below s d w a b Xor e p h = let z = ltb-true a w (test_2 (leb (s * d) w) (ltb a w) (ltb b w) e) in omega arith
+a_below s d w a b And e p h = let z = ltb-true a w (test_2 (leb (s * d) w) (ltb a w) (ltb b w) e) in omega arith
+a_below s d w a b Not e p h = let z = ltb-true a w (test_2 (leb (s * d) w) (ltb a w) (eqb b 0) e) in omega arith
 
 b_below : (s d w a b : ℕ) (k : Kind) → fits (routine_of (record { s = s; d = d; n = 0 }) []) w k a b ≡ true → 0 < s * d → s * d ≤ w → b < w
 unfolding fits
-b_below s d w a b Share e p h = let z = ltb_true w (s * d) (test_1 (ltb w (s * d)) (eqb a (w / d)) (eqb b (w % d)) e) in let y : ⊥ = omega arith in absurd y
-b_below s d w a b Rand e p h = let z = eqb_true b 0 (test_3 (leb (s * d) w) (eqb a 0) (eqb b 0) e) in omega arith
-b_below s d w a b Pub e p h = let z = eqb_true b 0 (test_3 (leb (s * d) w) (eqb a 0) (eqb b 0) e) in omega arith
-b_below s d w a b Xor e p h = let z = ltb_true b w (test_3 (leb (s * d) w) (ltb a w) (ltb b w) e) in omega arith
-b_below s d w a b And e p h = let z = ltb_true b w (test_3 (leb (s * d) w) (ltb a w) (ltb b w) e) in omega arith
-b_below s d w a b Not e p h = let z = eqb_true b 0 (test_3 (leb (s * d) w) (ltb a w) (eqb b 0) e) in omega arith
+b_below s d w a b Share e p h = let z = ltb-true w (s * d) (test_1 (ltb w (s * d)) (eqb a (w / d)) (eqb b (w % d)) e) in let y : ⊥ = omega arith in absurd y
+b_below s d w a b Rand e p h = let z = eqb-true b 0 (test_3 (leb (s * d) w) (eqb a 0) (eqb b 0) e) in omega arith
+b_below s d w a b Pub e p h = let z = eqb-true b 0 (test_3 (leb (s * d) w) (eqb a 0) (eqb b 0) e) in omega arith
+b_below s d w a b Xor e p h = let z = ltb-true b w (test_3 (leb (s * d) w) (ltb a w) (ltb b w) e) in omega arith
+b_below s d w a b And e p h = let z = ltb-true b w (test_3 (leb (s * d) w) (ltb a w) (ltb b w) e) in omega arith
+b_below s d w a b Not e p h = let z = eqb-true b 0 (test_3 (leb (s * d) w) (ltb a w) (eqb b 0) e) in omega arith
 
 -- the numbers of a share
 share_a : (s d w a b : ℕ) → fits (routine_of (record { s = s; d = d; n = 0 }) []) w Share a b ≡ true → a ≡ w / d
 unfolding fits
-share_a s d w a b e = eqb_true a (w / d) (test_2 (ltb w (s * d)) (eqb a (w / d)) (eqb b (w % d)) e)
+share_a s d w a b e = eqb-true a (w / d) (test_2 (ltb w (s * d)) (eqb a (w / d)) (eqb b (w % d)) e)
 
 share_b : (s d w a b : ℕ) → fits (routine_of (record { s = s; d = d; n = 0 }) []) w Share a b ≡ true → b ≡ w % d
 unfolding fits
-share_b s d w a b e = eqb_true b (w % d) (test_3 (ltb w (s * d)) (eqb a (w / d)) (eqb b (w % d)) e)
+share_b s d w a b e = eqb-true b (w % d) (test_3 (ltb w (s * d)) (eqb a (w / d)) (eqb b (w % d)) e)
 
 -- ---- what a routine's records are
 
@@ -133,12 +133,12 @@ module _ {σ : Shape} {ws : List Wire} (fit : Fit σ ws) (w : ℕ) (in-n : w < �
   a_within =
       bool_cases
       (ltb w (σ.s * σ.d))
-      (λ t. rw (share_secret (ltb_true w (σ.s * σ.d) t)) (div-le_self w σ.d))
-      (λ f. let z = a_earlier (ltb_false w (σ.s * σ.d) f) in omega arith)
+      (λ t. rw (share_secret (ltb-true w (σ.s * σ.d) t)) (div-le_self w σ.d))
+      (λ f. let z = a_earlier (ltb-false w (σ.s * σ.d) f) in omega arith)
 
   pub b_within : (record_at ws w).b ≤ w
   b_within =
       bool_cases
       (ltb w (σ.s * σ.d))
-      (λ t. rw (share_number (ltb_true w (σ.s * σ.d) t)) (mod-le w σ.d))
-      (λ f. let z = b_earlier (ltb_false w (σ.s * σ.d) f) in omega arith)
+      (λ t. rw (share_number (ltb-true w (σ.s * σ.d) t)) (mod-le w σ.d))
+      (λ f. let z = b_earlier (ltb-false w (σ.s * σ.d) f) in omega arith)

@@ -1,7 +1,7 @@
 -- Laws of the test of refusal 11 over the records as they lie in the list: the whole test, and its parts.
 use Rattle.std.specs.Prelude.{◌≡◌, refl, Bool, true, false, ◌&&◌, List, [], ℕ, zero, suc, ◌+◌, ◌*◌, ◌≤◌, ◌<◌, leb, length}
 use Rattle.std.proofs.Common.{ap, ap₂, ◌∙◌, mul-le-mul, add-one, arith, length-take-le}
-use borrow.Author.Tests.{leb_true, le-leb, lt-leb}
+use borrow.Author.Tests.{leb-true, le-leb, lt-leb}
 use Rattle.data.specs.Basics.{all}
 use Rattle.document.specs.Routine.{outputs, in_range, fits, record_fits_lem, ceilings, well_formed, routine_of, records_fit}
 use Rattle.data.specs.Laws.Tests.{and_l, and_r}
@@ -46,10 +46,10 @@ all_none f = refl
 pub in_range_lem : (s d : ℕ) → in_range s d ≡ true → Ranged s d
 unfolding in_range
 in_range_lem s d e =
-    let a = leb_true 1 s (and_l (leb 1 s) (leb s 8) (and_l (leb 1 s && leb s 8) (leb 2 d) (and_l (leb 1 s && leb s 8 && leb 2 d) (leb d 8) e))) in
-    let b = leb_true s 8 (and_r (leb 1 s) (leb s 8) (and_l (leb 1 s && leb s 8) (leb 2 d) (and_l (leb 1 s && leb s 8 && leb 2 d) (leb d 8) e))) in
-    let f = leb_true 2 d (and_r (leb 1 s && leb s 8) (leb 2 d) (and_l (leb 1 s && leb s 8 && leb 2 d) (leb d 8) e)) in
-    let g = leb_true d 8 (and_r (leb 1 s && leb s 8 && leb 2 d) (leb d 8) e) in
+    let a = leb-true 1 s (and_l (leb 1 s) (leb s 8) (and_l (leb 1 s && leb s 8) (leb 2 d) (and_l (leb 1 s && leb s 8 && leb 2 d) (leb d 8) e))) in
+    let b = leb-true s 8 (and_r (leb 1 s) (leb s 8) (and_l (leb 1 s && leb s 8) (leb 2 d) (and_l (leb 1 s && leb s 8 && leb 2 d) (leb d 8) e))) in
+    let f = leb-true 2 d (and_r (leb 1 s && leb s 8) (leb 2 d) (and_l (leb 1 s && leb s 8 && leb 2 d) (leb d 8) e)) in
+    let g = leb-true d 8 (and_r (leb 1 s && leb s 8 && leb 2 d) (leb d 8) e) in
     record { s_low = a; s_high = b; d_low = f; d_high = g; shares_few = mul-le-mul b g; shares_some = mul-le-mul a f }
 
 -- 7.11: the test where the list is long enough

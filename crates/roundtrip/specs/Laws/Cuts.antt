@@ -1,6 +1,6 @@
 -- Joining the parts of a list of bytes undoes the cutting, and a text is its lines.
 use Rattle.std.specs.Prelude.{◌≡◌, refl, Bool, true, false, cond, List, [], ◌∷◌, ◌++◌, ℕ, suc, ◌-◌, ◌<◌, eqb, length, get_or}
-use Rattle.std.proofs.Common.{sym, ap, ap₂, ◌∙◌, arith, eqb_true, eq-eqb}
+use Rattle.std.proofs.Common.{sym, ap, ap₂, ◌∙◌, arith, eqb-true, eq-eqb}
 use Rattle.document.specs.Lines.{cut, front, heads, join, lf}
 use Rattle.data.specs.Laws.Tests.{both}
 use Rattle.document.specs.Laws.Cuts.{first_part, later_parts, cut_some, free, frees, cut_first}
@@ -18,7 +18,7 @@ join_cut s [] = refl
 join_cut s (x ∷ xs) = go (eqb x s) refl (first_part (cut s xs)) (later_parts (cut s xs)) (cut_some s xs) (join_cut s xs) where
   go : (b : Bool) → eqb x s ≡ b → (q : List ℕ) (qs : List (List ℕ)) → cut s xs ≡ q ∷ qs → join s (cut s xs) ≡ xs
       → join s (cond b ([] ∷ cut s xs) (front x (cut s xs))) ≡ x ∷ xs
-  go true e q qs c h = ap (λ (l : List (List ℕ)). join s ([] ∷ l)) c ∙ ap₂ (λ (y : ℕ) (ys : List ℕ). y ∷ ys) (sym (eqb_true x s e)) (ap (join s) (sym c) ∙ h)
+  go true e q qs c h = ap (λ (l : List (List ℕ)). join s ([] ∷ l)) c ∙ ap₂ (λ (y : ℕ) (ys : List ℕ). y ∷ ys) (sym (eqb-true x s e)) (ap (join s) (sym c) ∙ h)
   go false e q qs c h = ap (λ (l : List (List ℕ)). join s (front x l)) c ∙ join_front s x q qs ∙ ap (λ (ys : List ℕ). x ∷ ys) (ap (join s) (sym c) ∙ h)
 
 -- ---- lines

@@ -1,6 +1,6 @@
 -- The test of well-formedness taken apart, and its lines: each is a line with numbers below 128, and the text is short.
 use Rattle.std.specs.Prelude.{◌≡◌, refl, Bool, ◌&&◌, cond, List, [], ◌∷◌, ◌++◌, leb, eqb, ltb, length}
-use Rattle.std.proofs.Common.{ap, ◌∙◌, suc-mul, mul-le-mul_right, length-append, leb_true, eqb_true, ltb_true, lt-ltb, le-leb, eq-eqb}
+use Rattle.std.proofs.Common.{ap, ◌∙◌, suc-mul, mul-le-mul_right, length-append, leb-true, eqb-true, ltb-true, lt-ltb, le-leb, eq-eqb}
 use Rattle.std.proofs.Math.Bool.{true, false}
 use Prim.Native.Nat.{ℕ, zero, suc, ◌+◌, ◌-◌, ◌*◌, ◌/◌, ◌%◌, ◌≤◌, ◌<◌}
 use native.Mathlib.Omega.{arith}
@@ -41,11 +41,11 @@ formed R h =
     let f = both (leb (size R) 128) (leb (rands_before R (size R)) 64) e.0 in
     record {
       ranged = c.0;
-      shares = leb_true (R.S * R.D) (size R) c.1;
-      wide = leb_true (size R) 128 f.0;
-      few_rands = leb_true (rands_before R (size R)) 64 f.1;
-      few_pubs = leb_true (pubs_before R (size R)) 16 e.1;
-      few_outs = leb_true (outputs R) 64 d.1;
+      shares = leb-true (R.S * R.D) (size R) c.1;
+      wide = leb-true (size R) 128 f.0;
+      few_rands = leb-true (rands_before R (size R)) 64 f.1;
+      few_pubs = leb-true (pubs_before R (size R)) 16 e.1;
+      few_outs = leb-true (outputs R) 64 d.1;
       each_fits = all_at (size R) (record_fits_lem R) a.1;
     }
 
@@ -72,9 +72,9 @@ ranged_is s d h =
     let a = both (leb 1 s && leb s 8 && leb 2 d) (leb d 8) h in
     let b = both (leb 1 s && leb s 8) (leb 2 d) a.0 in
     let c = both (leb 1 s) (leb s 8) b.0 in
-    let p = leb_true s 8 c.1 in
-    let q = leb_true d 8 a.1 in
-    record { s_most = p; d_least = leb_true 2 d b.1; d_most = q; few = let z = mul-le-mul_right d p in omega arith }
+    let p = leb-true s 8 c.1 in
+    let q = leb-true d 8 a.1 in
+    record { s_most = p; d_least = leb-true 2 d b.1; d_most = q; few = let z = mul-le-mul_right d p in omega arith }
 
 -- ---- one record
 
@@ -103,13 +103,13 @@ apart x y z h = let t = both (x && y) z h in let u = both x y t.0 in (u.0, u.1, 
 pub fits_made : (R : Routine) (w : ℕ) (k : Kind) (a b : ℕ) → R.S * R.D ≤ w → fits R w k a b ≡ true → Made w k a b
 unfolding fits
 fits_made R w K.Share a b h f =
-    let z = ltb_true w (R.S * R.D) (apart (ltb w (R.S * R.D)) (eqb a (w / R.D)) (eqb b (w % R.D)) f).0 in
+    let z = ltb-true w (R.S * R.D) (apart (ltb w (R.S * R.D)) (eqb a (w / R.D)) (eqb b (w % R.D)) f).0 in
     let y : ⊥ = omega arith in y
-fits_made R w K.Rand a b h f = let t = apart (leb (R.S * R.D) w) (eqb a 0) (eqb b 0) f in (eqb_true a 0 t.1, eqb_true b 0 t.2)
-fits_made R w K.Pub a b h f = let t = apart (leb (R.S * R.D) w) (eqb a 0) (eqb b 0) f in (eqb_true a 0 t.1, eqb_true b 0 t.2)
-fits_made R w K.Xor a b h f = let t = apart (leb (R.S * R.D) w) (ltb a w) (ltb b w) f in (ltb_true a w t.1, ltb_true b w t.2)
-fits_made R w K.And a b h f = let t = apart (leb (R.S * R.D) w) (ltb a w) (ltb b w) f in (ltb_true a w t.1, ltb_true b w t.2)
-fits_made R w K.Not a b h f = let t = apart (leb (R.S * R.D) w) (ltb a w) (eqb b 0) f in (ltb_true a w t.1, eqb_true b 0 t.2)
+fits_made R w K.Rand a b h f = let t = apart (leb (R.S * R.D) w) (eqb a 0) (eqb b 0) f in (eqb-true a 0 t.1, eqb-true b 0 t.2)
+fits_made R w K.Pub a b h f = let t = apart (leb (R.S * R.D) w) (eqb a 0) (eqb b 0) f in (eqb-true a 0 t.1, eqb-true b 0 t.2)
+fits_made R w K.Xor a b h f = let t = apart (leb (R.S * R.D) w) (ltb a w) (ltb b w) f in (ltb-true a w t.1, ltb-true b w t.2)
+fits_made R w K.And a b h f = let t = apart (leb (R.S * R.D) w) (ltb a w) (ltb b w) f in (ltb-true a w t.1, ltb-true b w t.2)
+fits_made R w K.Not a b h f = let t = apart (leb (R.S * R.D) w) (ltb a w) (eqb b 0) f in (ltb-true a w t.1, eqb-true b 0 t.2)
 
 -- a record before them is its place's share
 pub record Place (d w : ℕ) (k : Kind) (a b : ℕ) : Type 0 where
@@ -118,13 +118,13 @@ pub record Place (d w : ℕ) (k : Kind) (a b : ℕ) : Type 0 where
   pub number : b ≡ w % d
 
 late : {X : Type 0} (n w : ℕ) (y z : Bool) → w < n → (leb n w && y && z) ≡ true → X
-late n w y z h f = let t = leb_true n w (apart (leb n w) y z f).0 in let v : ⊥ = omega arith in absurd v
+late n w y z h f = let t = leb-true n w (apart (leb n w) y z f).0 in let v : ⊥ = omega arith in absurd v
 
 pub fits_place : (R : Routine) (w : ℕ) (k : Kind) (a b : ℕ) → w < R.S * R.D → fits R w k a b ≡ true → Place R.D w k a b
 unfolding fits
 fits_place R w K.Share a b h f =
     let t = apart (ltb w (R.S * R.D)) (eqb a (w / R.D)) (eqb b (w % R.D)) f in
-    record { is_share = refl; secret = eqb_true a (w / R.D) t.1; number = eqb_true b (w % R.D) t.2 }
+    record { is_share = refl; secret = eqb-true a (w / R.D) t.1; number = eqb-true b (w % R.D) t.2 }
 fits_place R w K.Rand a b h f = late (R.S * R.D) w (eqb a 0) (eqb b 0) h f
 fits_place R w K.Pub a b h f = late (R.S * R.D) w (eqb a 0) (eqb b 0) h f
 fits_place R w K.Xor a b h f = late (R.S * R.D) w (ltb a w) (ltb b w) h f

@@ -1,6 +1,6 @@
 -- A line and its fields determine each other, and so do a number or a word and its bytes.
 use Rattle.std.specs.Prelude.{◌≡◌, refl, Bool, true, false, ◌&&◌, cond, List, [], ◌∷◌, ℕ, ◌+◌, ◌-◌, ◌*◌, ◌/◌, ◌%◌, ◌≤◌, ◌<◌, leb, eqb, ltb}
-use Rattle.std.proofs.Common.{ap, ap₂, subst, arith, leb_true, eqb_true, ltb_true, ltb_false, lt-ltb, le-ltb, le-leb}
+use Rattle.std.proofs.Common.{ap, ap₂, subst, arith, leb-true, eqb-true, ltb-true, ltb-false, lt-ltb, le-ltb, le-leb}
 use Rattle.std.proofs.lemmas.Bool.{false≢true}
 use Rattle.data.specs.declared.Line.{Line}
 use Rattle.data.specs.declared.Line.TheVariants as L
@@ -16,10 +16,10 @@ use Rattle.roundtrip.specs.Texts.{Below, Writable}
 -- ---- numbers
 
 digit_is : (c : ℕ) → digit c ≡ true → (digit_zero ≤ c) × (c ≤ digit_nine)
-digit_is c h = let t = both (leb digit_zero c) (leb c digit_nine) h in (leb_true digit_zero c t.0, leb_true c digit_nine t.1)
+digit_is c h = let t = both (leb digit_zero c) (leb c digit_nine) h in (leb-true digit_zero c t.0, leb-true c digit_nine t.1)
 
 lead_is : (c : ℕ) → lead c ≡ true → (digit_one ≤ c) × (c ≤ digit_nine)
-lead_is c h = let t = both (leb digit_one c) (leb c digit_nine) h in (leb_true digit_one c t.0, leb_true c digit_nine t.1)
+lead_is c h = let t = both (leb digit_one c) (leb c digit_nine) h in (leb-true digit_one c t.0, leb-true c digit_nine t.1)
 
 -- a number is read as it was written
 pub number_decimal : (n : ℕ) → n < 1000 → number (decimal n) ≡ Is n
@@ -27,12 +27,12 @@ unfolding number decimal
 number_decimal n h = go (ltb n 10) (ltb n 100) refl refl where
   go : (b c : Bool) → ltb n 10 ≡ b → ltb n 100 ≡ c → number (decimal n) ≡ Is n
   go true c e f =
-      let z = ltb_true n 10 e in
+      let z = ltb-true n 10 e in
       let q : digit_zero + n - digit_zero ≡ n = omega arith in
       simp (e, le-leb digit_zero (digit_zero + n) (omega arith), le-leb (digit_zero + n) digit_nine (omega arith), q)
   go false true e f =
-      let z = ltb_false n 10 e in
-      let y = ltb_true n 100 f in
+      let z = ltb-false n 10 e in
+      let y = ltb-true n 100 f in
       let q : (digit_zero + n / 10 - digit_zero) * 10 + (digit_zero + n % 10 - digit_zero) ≡ n = omega arith in
       simp (
         e,
@@ -44,7 +44,7 @@ number_decimal n h = go (ltb n 10) (ltb n 100) refl refl where
         q,
       )
   go false false e f =
-      let z = ltb_false n 100 f in
+      let z = ltb-false n 100 f in
       let q : (digit_zero + n / 100 - digit_zero) * 100 + (digit_zero + n / 10 % 10 - digit_zero) * 10 + (digit_zero + n % 10 - digit_zero) ≡ n = omega arith in
       simp (
         e,
@@ -105,7 +105,7 @@ unfolding same
 same_is [] [] h = refl
 same_is [] (y ∷ ys) h = absurd (false≢true h)
 same_is (x ∷ xs) [] h = absurd (false≢true h)
-same_is (x ∷ xs) (y ∷ ys) h = let t = both (eqb x y) (same xs ys) h in ap₂ (λ (z : ℕ) (zs : List ℕ). z ∷ zs) (eqb_true x y t.0) (same_is xs ys t.1)
+same_is (x ∷ xs) (y ∷ ys) h = let t = both (eqb x y) (same xs ys) h in ap₂ (λ (z : ℕ) (zs : List ℕ). z ∷ zs) (eqb-true x y t.0) (same_is xs ys t.1)
 
 -- the field is the word's spelling, unless it is no word
 abbrev Spells : List ℕ → Word → Type 0

@@ -1,6 +1,6 @@
 -- A written line is read back as itself, and a written text as its lines.
 use Rattle.std.specs.Prelude.{◌≡◌, refl, Bool, true, false, ◌&&◌, ◌||◌, List, [], ◌∷◌, ◌++◌, map, ℕ, ◌+◌, ◌-◌, ◌/◌, ◌%◌, ◌≤◌, ◌<◌, leb, ltb, length, get_or}
-use Rattle.std.proofs.Common.{sym, ap, ap₂, ◌∙◌, append_assoc, arith, length-append, get_or-append-add, leb_true, ltb_true, ltb_false, le-leb, ne_eqb}
+use Rattle.std.proofs.Common.{sym, ap, ap₂, ◌∙◌, append_assoc, arith, length-append, get_or-append-add, leb-true, ltb-true, ltb-false, le-leb, ne_eqb}
 use Rattle.std.proofs.Math.Bool.{or-true}
 use Rattle.data.specs.declared.Line.{Line}
 use Rattle.data.specs.declared.Line.TheVariants as L
@@ -33,8 +33,8 @@ plain_low : (c : ℕ) → field_byte c ≡ true → digit_zero ≤ c
 unfolding field_byte
 plain_low c h = go (leb letter_a c && leb c letter_z) refl h where
   go : (b : Bool) → (leb letter_a c && leb c letter_z) ≡ b → (b || (leb digit_zero c && leb c digit_nine)) ≡ true → digit_zero ≤ c
-  go true e h = let z = leb_true letter_a c (both (leb letter_a c) (leb c letter_z) e).0 in omega arith
-  go false e h = leb_true digit_zero c (both (leb digit_zero c) (leb c digit_nine) h).0
+  go true e h = let z = leb-true letter_a c (both (leb letter_a c) (leb c letter_z) e).0 in omega arith
+  go false e h = leb-true digit_zero c (both (leb digit_zero c) (leb c digit_nine) h).0
 
 plain_letter : (c : ℕ) → field_byte c ≡ true → letter c ≡ true
 unfolding field_byte
@@ -69,10 +69,10 @@ plain_decimal : (n : ℕ) → n < 1000 → each field_byte (decimal n) ≡ true
 unfolding each decimal
 plain_decimal n h = go (ltb n 10) (ltb n 100) refl refl where
   go : (b c : Bool) → ltb n 10 ≡ b → ltb n 100 ≡ c → each field_byte (decimal n) ≡ true
-  go true c e f = let z = ltb_true n 10 e in simp (e, digit_plain (digit_zero + n) (omega arith) (omega arith))
+  go true c e f = let z = ltb-true n 10 e in simp (e, digit_plain (digit_zero + n) (omega arith) (omega arith))
   go false true e f =
-      let z = ltb_false n 10 e in
-      let y = ltb_true n 100 f in
+      let z = ltb-false n 10 e in
+      let y = ltb-true n 100 f in
       simp (e, f, digit_plain (digit_zero + n / 10) (omega arith) (omega arith), digit_plain (digit_zero + n % 10) (omega arith) (omega arith))
   go false false e f =
       simp (

@@ -1,6 +1,6 @@
 -- What is read is well-formed, and its lines are those of the text.
 use Rattle.std.specs.Prelude.{◌≡◌, refl, Bool, true, false, ◌&&◌, cond, List, [], ◌∷◌, ◌++◌, ℕ, ◌+◌, ◌-◌, ◌≤◌, ◌<◌, leb, eqb, ltb, length, get_or, replicate}
-use Rattle.std.proofs.Common.{sym, ap₂, ◌∙◌, append_assoc, append-nil, arith, eqb_true, ltb_true}
+use Rattle.std.proofs.Common.{sym, ap₂, ◌∙◌, append_assoc, append-nil, arith, eqb-true, ltb-true}
 use Rattle.std.proofs.Math.Path.{ap, subst}
 use Rattle.std.proofs.Math.Seq.{take-append_seam}
 use Rattle.data.specs.declared.Wire.{Wire}
@@ -159,8 +159,8 @@ accepted t h =
     let b = tested typed No.Byte 0 (from_first (lines_in t)) h' in
     let h'' = sym (ap (λ (r : Read). r.outcome) b.1) ∙ h' in
     record {
-      some = ltb_true 0 (length t) (both (ltb 0 (length t)) (leb (length t) 4096) a.0).0;
-      shut = eqb_true (get_or t (length t - 1) 0) lf (both (each letter t) (eqb (get_or t (length t - 1) 0) lf) b.0).1;
+      some = ltb-true 0 (length t) (both (ltb 0 (length t)) (leb (length t) 4096) a.0).0;
+      shut = eqb-true (get_or t (length t - 1) 0) lf (both (each letter t) (eqb (get_or t (length t - 1) 0) lf) b.0).1;
       reached = subst (λ (r : Read). Reached r (lines_in t)) (sym (a.1 ∙ b.1)) (first_reached (lines_in t) h'');
     }
 

@@ -1,6 +1,6 @@
 -- S, D, n and records that pass the test of 11 are exactly those that a read could have given.
 use Rattle.std.specs.Prelude.{◌≡◌, true, List, ℕ, ◌-◌, ◌≤◌, leb, length, take, replicate}
-use Rattle.std.proofs.Common.{ap, subst, ◌∙◌, arith, length-take, length-take-le, take_at, leb_true, le-leb}
+use Rattle.std.proofs.Common.{ap, subst, ◌∙◌, arith, length-take, length-take-le, take_at, leb-true, le-leb}
 use Rattle.data.specs.declared.Wire.{Wire}
 use Rattle.data.specs.declared.Read.{Read}
 use Rattle.data.specs.declared.Shape.{Shape}
@@ -17,7 +17,7 @@ unfolding records_fit
 fit→read σ ws h =
     let n = σ.n in
     let R = routine_of σ ws in
-    let l = leb_true n (length ws) (and_l (leb n (length ws)) (well_formed R) h) in
+    let l = leb-true n (length ws) (and_l (leb n (length ws)) (well_formed R) h) in
     let long : size R ≡ n = length-take-le n ws l in
     let e = written_read R (formed R (and_r (leb n (length ws)) (well_formed R) h)) in
     record {

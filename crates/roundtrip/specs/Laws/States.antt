@@ -1,6 +1,6 @@
 -- What a state of a reading stands for: the routine read so far. A line that is taken makes one wire more, or marks one.
 use Rattle.std.specs.Prelude.{◌≡◌, refl, Bool, true, false, ◌&&◌, cond, List, [], ◌∷◌, ◌++◌, ℕ, suc, ◌+◌, ◌-◌, ◌≤◌, ◌<◌, leb, eqb, ltb, length, get_or, set, replicate}
-use Rattle.std.proofs.Common.{sym, ap, ap₂, subst, ◌∙◌, append_assoc, arith, length-append, length-set, leb_true, eqb_true, ltb_true}
+use Rattle.std.proofs.Common.{sym, ap, ap₂, subst, ◌∙◌, append_assoc, arith, length-append, length-set, leb-true, eqb-true, ltb-true}
 use Rattle.std.proofs.Math.ListN.{get_or-append}
 use Rattle.std.proofs.Math.Seq.{set-append_seam}
 use Rattle.std.proofs.lemmas.List.{set-append_left}
@@ -109,11 +109,11 @@ make_does st w k a b l m e h =
     (λ q. tested (ltb st.n 128 && leb (st.rands + one (is_rand k)) 64 && leb (st.pubs + one (is_pub k)) 16) st No.Ceiling l (taken (made st k a b))
     (λ r g.
     let t = both (eqb w st.n) (eqb st.outs 0) p in
-    let n = eqb_true w st.n t.0 in
+    let n = eqb-true w st.n t.0 in
     let u = both (ltb st.n 128 && leb (st.rands + one (is_rand k)) 64) (leb (st.pubs + one (is_pub k)) 16) r in
     let v = both (ltb st.n 128) (leb (st.rands + one (is_rand k)) 64) u.0 in
-    makes k a b (eqb_true st.outs 0 t.1) (subst (λ (i : ℕ). Made i k a b) n (m q)) (ltb_true st.n 128 v.0)
-    (leb_true (st.rands + one (is_rand k)) 64 v.1) (leb_true (st.pubs + one (is_pub k)) 16 u.1) (e ∙ ap (λ (i : ℕ). line_of_kind i k a b) n) refl))) h
+    makes k a b (eqb-true st.outs 0 t.1) (subst (λ (i : ℕ). Made i k a b) n (m q)) (ltb-true st.n 128 v.0)
+    (leb-true (st.rands + one (is_rand k)) 64 v.1) (leb-true (st.pubs + one (is_pub k)) 16 u.1) (e ∙ ap (λ (i : ℕ). line_of_kind i k a b) n) refl))) h
 
 mark_does : (st : State) (w : ℕ) → (mark_out st w).outcome ≡ Done → Does st (L.Out w) (mark_out st w).state
 unfolding mark_out
@@ -121,11 +121,11 @@ mark_does st w h =
     tested (ltb st.outs 64) st No.Ceiling (L.Out w) _
     (λ p. tested (ltb w st.n && leb st.low w) st No.Output (L.Out w) (taken (marked st w))
     (λ q g. let t = both (ltb w st.n) (leb st.low w) q in
-    marks w (ltb_true st.outs 64 p) (ltb_true w st.n t.0) (leb_true st.low w t.1) refl refl)) h
+    marks w (ltb-true st.outs 64 p) (ltb-true w st.n t.0) (leb-true st.low w t.1) refl refl)) h
 
 -- both operands are earlier wires
 two_earlier : (w a b : ℕ) → (ltb a w && (ltb b w && true)) ≡ true → (a < w) × (b < w)
-two_earlier w a b h = let t = both (ltb a w) (ltb b w && true) h in (ltb_true a w t.0, ltb_true b w (both (ltb b w) true t.1).0)
+two_earlier w a b h = let t = both (ltb a w) (ltb b w && true) h in (ltb-true a w t.0, ltb-true b w (both (ltb b w) true t.1).0)
 
 pub does : (st : State) (l : Line) → (take_line st l).outcome ≡ Done → Does st l (take_line st l).state
 unfolding take_line earlier each operands_of line_of_kind
@@ -135,5 +135,5 @@ does st (L.Rand w) h = make_does st w K.Rand 0 0 (L.Rand w) (λ q. (refl, refl))
 does st (L.Pub w) h = make_does st w K.Pub 0 0 (L.Pub w) (λ q. (refl, refl)) refl h
 does st (L.Xor w a b) h = make_does st w K.Xor a b (L.Xor w a b) (two_earlier w a b) refl h
 does st (L.And w a b) h = make_does st w K.And a b (L.And w a b) (two_earlier w a b) refl h
-does st (L.Not w a) h = make_does st w K.Not a 0 (L.Not w a) (λ q. (ltb_true a w (both (ltb a w) true q).0, refl)) refl h
+does st (L.Not w a) h = make_does st w K.Not a 0 (L.Not w a) (λ q. (ltb-true a w (both (ltb a w) true q).0, refl)) refl h
 does st (L.Out w) h = mark_does st w h

@@ -1,7 +1,7 @@
 -- A well-formed routine's own lines are taken one after the other, and what they lead to is the routine.
 use Rattle.std.specs.Prelude.{◌≡◌, Bool, cond, List, ◌∷◌, ◌++◌, length, get_or}
 use Rattle.std.proofs.Math.Path.{refl, sym, ap, subst}
-use Rattle.std.proofs.Common.{ap₂, ◌∙◌, ext_get_or, ltb_true, ltb_false, lt-ltb, le-leb, eq-eqb}
+use Rattle.std.proofs.Common.{ap₂, ◌∙◌, ext_get_or, ltb-true, ltb-false, lt-ltb, le-leb, eq-eqb}
 use Rattle.std.proofs.Math.Bool.{true, false}
 use Rattle.std.proofs.lemmas.Bool.{false≢true}
 use Prim.Native.Nat.{ℕ, zero, suc, ◌+◌, ◌-◌, ◌*◌, ◌≤◌, ◌<◌}
@@ -166,8 +166,8 @@ module _ (R : Routine) (f : Formed R) where
       omega arith
     where
       by_half : (u : ℕ) → u < size R → (wire Q u).out ≡ true → (b : Bool) → ltb u w ≡ b → (wire R u).out ≡ true
-      by_half u l t true e = sym (ap (λ (x : Wire). x.out) (p.below u (ltb_true u w e))) ∙ t
-      by_half u l t false e = absurd (false≢true (sym (ap (λ (x : Wire). x.out) (p.above u (ltb_false u w e) l)) ∙ t))
+      by_half u l t true e = sym (ap (λ (x : Wire). x.out) (p.below u (ltb-true u w e))) ∙ t
+      by_half u l t false e = absurd (false≢true (sym (ap (λ (x : Wire). x.out) (p.above u (ltb-false u w e) l)) ∙ t))
 
   partly_all : (Q : Routine) → Partly R (size R) Q → Q ≡ R
   partly_all Q p =

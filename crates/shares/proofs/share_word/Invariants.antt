@@ -1,0 +1,15 @@
+-- `shares::share_word` meets its contract. The loop's invariant: the word has the bits below k.
+use mathlib.Core.Path.{◌≡◌, ap, ap₂, ◌∙◌}
+use Prim.Native.Nat.{ℕ, ◌+◌, ◌-◌, ◌≤◌, ◌<◌, ◌^◌}
+use native.Mathlib.Omega.{arith}
+use borrow.Author.Rules.{rules}
+use Rattle.document.specs.Padding.{word}
+use Rattle.data.specs.Basics.{at}
+use Rattle.shares.specs.Laws.Words.{word_none, word_more, word_fits}
+use Rattle.shares.proofs.share_word.Given as goal
+
+abbrev pub invariant-loop-k : goal.invariant-loop-k
+invariant-loop-k l = (l.k ≤ l.m) × (l.shares ≡ word l.k (at l.alive))
+
+abbrev pub decreases-loop-k : goal.decreases-loop-k
+decreases-loop-k l = l.m - l.k
