@@ -13,6 +13,7 @@ use Rattle.data.specs.Basics.{at}
 use Rattle.marks.specs.Passes.{wired}
 use Rattle.marks.specs.Laws.Passes.{live_on, live_off, live_end, live_all}
 use Rattle.marks.proofs.live_marks.Goals as goal
+use Rattle.marks.proofs.live_marks.Goals.{else-m-u-via-then-m-u+else-not-leaf-u, else-m-u-via-else-m-u}
 
 pub loop-u-preserved-then-not-leaf-u : goal.loop-u-preserved-then-not-leaf-u
 loop-u-preserved-then-not-leaf-u c = let s = c in
@@ -30,9 +31,9 @@ loop-u-preserved c = let s = c in
     let m = c.loop-u.m in (
       omega arith,
       live_off s.args.n s.args.ws s.args.leaf u m (omega arith)
-          (elim c.if-m-u.branch [
-            | inl p ↦ and_false (at m (u - 1)) (not (at s.args.leaf (u - 1))) p.1.left
-            | inr q ↦ ap (λ (b : Bool). b && not (at s.args.leaf (u - 1))) q.left
+          (elim c.else-m-u.branch [
+            | else-m-u-via-then-m-u+else-not-leaf-u w ↦ and_false (at m (u - 1)) (not (at s.args.leaf (u - 1))) (ap not w.if-not-leaf-u.false)
+            | else-m-u-via-else-m-u w ↦ ap (λ (b : Bool). b && not (at s.args.leaf (u - 1))) w.if-m-u.false
           ])
           ∙ c.loop-u.invariant.1,
     )
