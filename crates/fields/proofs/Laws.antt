@@ -1,6 +1,6 @@
 -- Laws on tests, numbers, words and cuts that the proofs of this crate cite.
 use mathlib.Core.Path.{◌≡◌, refl, ap}
-use mathlib.Core.Bool.{true, false, ◌&&◌, and_false}
+use mathlib.Core.Bool.{true, false, ◌&&◌, and-false}
 use mathlib.Core.List.{List, [], ◌∷◌}
 use Prim.Native.Nat.{ℕ, zero, suc, ◌+◌, ◌-◌, ◌≤◌, ◌<◌}
 use native.Mathlib.Omega.{arith}
@@ -8,7 +8,7 @@ use native.Mathlib.Numerals.{add-one}
 use lib.ListN.{length, get_or, take, drop, drop_of_length-le, length-drop}
 use lib.Seq.{take_all}
 use lib.Dec.{leb, eqb}
-use borrow.Author.Tests.{leb_true, eq-eqb, ne_eqb}
+use borrow.Author.Tests.{leb-true, eq-eqb, ne_eqb}
 use Rattle.data.specs.Basics.{same}
 use Rattle.data.specs.Laws.Tests.{and_l, and_r}
 use Rattle.document.specs.Lines.{cut, front, number, digit, lead, word_of, spelled, digit_zero, digit_one, digit_nine}
@@ -22,11 +22,11 @@ use Rattle.fields.specs.Parts.{Parted}
 
 pub digit_is : (c : ℕ) → digit c ≡ true → (digit_zero ≤ c) × (c ≤ digit_nine)
 digit_is c h =
-    (leb_true _ _ (and_l (leb digit_zero c) (leb c digit_nine) h), leb_true _ _ (and_r (leb digit_zero c) (leb c digit_nine) h))
+    (leb-true _ _ (and_l (leb digit_zero c) (leb c digit_nine) h), leb-true _ _ (and_r (leb digit_zero c) (leb c digit_nine) h))
 
 pub lead_is : (c : ℕ) → lead c ≡ true → (digit_one ≤ c) × (c ≤ digit_nine)
 lead_is c h =
-    (leb_true _ _ (and_l (leb digit_one c) (leb c digit_nine) h), leb_true _ _ (and_r (leb digit_one c) (leb c digit_nine) h))
+    (leb-true _ _ (and_l (leb digit_one c) (leb c digit_nine) h), leb-true _ _ (and_r (leb digit_one c) (leb c digit_nine) h))
 
 -- ---- numbers, by the length of the field
 
@@ -75,7 +75,7 @@ unfolding same
 same_not [] [] f = absurd (f refl)
 same_not [] (y ∷ ys) f = refl
 same_not (x ∷ xs) [] f = refl
-same_not (x ∷ xs) (y ∷ ys) f = rw (same_not xs ys (λ e. f (ap suc e))) (and_false (eqb x y))
+same_not (x ∷ xs) (y ∷ ys) f = rw (same_not xs ys (λ e. f (ap suc e))) (and-false (eqb x y))
 
 pub same_end : (i : ℕ) (xs ys : List ℕ) → length xs ≤ i → length ys ≤ i → same (drop i xs) (drop i ys) ≡ true
 unfolding same
