@@ -4,7 +4,7 @@ use mathlib.Core.Bool.{Bool, true, false, ◌&&◌, and-true}
 use Prim.Native.Nat.{ℕ, ◌+◌, ◌≤◌, ◌<◌}
 use native.Mathlib.Omega.{arith}
 use lib.Dec.{leb, ltb}
-use borrow.Author.Tests.{leb_true, ltb_true, lt-ltb, le-ltb, lt-leb, le-leb}
+use borrow.Author.Tests.{leb-true, ltb-true, lt-ltb, le-ltb, lt-leb, le-leb}
 use Rattle.data.specs.Basics.{one, each}
 use Rattle.data.specs.Laws.Tests.{and_l, and_r}
 use Rattle.document.specs.Routine.{is_rand, is_pub, operands_of}
@@ -45,7 +45,7 @@ room_is st k h =
     let y = leb (st.rands + one (is_rand k)) 64 in
     let z = leb (st.pubs + one (is_pub k)) 16 in
     let e = and_l (x && y) z h in
-    record { wires = ltb_true _ _ (and_l x y e); rands = leb_true _ _ (and_r x y e); pubs = leb_true _ _ (and_r (x && y) z h) }
+    record { wires = ltb-true _ _ (and_l x y e); rands = leb-true _ _ (and_r x y e); pubs = leb-true _ _ (and_r (x && y) z h) }
 
 module _ (st : State) (k : Kind) where
   pub no_wire : 128 ≤ st.n → false ≡ has_room st k
