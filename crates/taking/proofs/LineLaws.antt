@@ -4,7 +4,7 @@ use mathlib.Core.Bool.{true, false, ◌&&◌}
 use Prim.Native.Nat.{ℕ, ◌≤◌}
 use native.Mathlib.Omega.{arith}
 use lib.Dec.{leb, eqb, ltb}
-use borrow.Author.Tests.{eqb_true, ltb_true}
+use borrow.Author.Tests.{eqb-true, ltb-true}
 use Rattle.data.specs.Laws.Tests.{and_l, and_r, cond_cases}
 use Rattle.document.specs.Reading.{taken, not_taken, made, marked, is_next, earlier, has_room, make, mark_out, take_line}
 use Rattle.data.specs.declared.Kind.{Kind}
@@ -22,20 +22,20 @@ use Rattle.taking.specs.Operands.{unused_zero}
 
 pub next_is : (st : State) (w : ℕ) → is_next st w ≡ true → w ≡ st.n
 unfolding is_next
-next_is st w h = eqb_true _ _ (and_l (eqb w st.n) (eqb st.outs 0) h)
+next_is st w h = eqb-true _ _ (and_l (eqb w st.n) (eqb st.outs 0) h)
 
 -- ---- 7
 
 both_zero : (w a b : ℕ) → (eqb a 0 && eqb b 0) ≡ true → (a ≤ w) × (b ≤ w)
 both_zero w a b h =
-    let x = eqb_true a 0 (and_l (eqb a 0) (eqb b 0) h) in
-    let y = eqb_true b 0 (and_r (eqb a 0) (eqb b 0) h) in
+    let x = eqb-true a 0 (and_l (eqb a 0) (eqb b 0) h) in
+    let y = eqb-true b 0 (and_r (eqb a 0) (eqb b 0) h) in
     (omega arith, omega arith)
 
 both_below : (w a b : ℕ) → (ltb a w && ltb b w) ≡ true → (a ≤ w) × (b ≤ w)
 both_below w a b h =
-    let x = ltb_true a w (and_l (ltb a w) (ltb b w) h) in
-    let y = ltb_true b w (and_r (ltb a w) (ltb b w) h) in
+    let x = ltb-true a w (and_l (ltb a w) (ltb b w) h) in
+    let y = ltb-true b w (and_r (ltb a w) (ltb b w) h) in
     (omega arith, omega arith)
 
 -- an operand that is earlier or unused is at most w
@@ -46,8 +46,8 @@ operands_below w K.Pub a b h u = both_zero w a b u
 operands_below w K.Xor a b h u = both_below w a b (sym (earlier_xor w a b) ∙ h)
 operands_below w K.And a b h u = both_below w a b (sym (earlier_and w a b) ∙ h)
 operands_below w K.Not a b h u =
-    let x = ltb_true a w (sym (earlier_not w a b) ∙ h) in
-    let y = eqb_true b 0 u in
+    let x = ltb-true a w (sym (earlier_not w a b) ∙ h) in
+    let y = eqb-true b 0 u in
     (omega arith, omega arith)
 
 -- ---- a wire line
