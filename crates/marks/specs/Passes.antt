@@ -1,5 +1,5 @@
 -- What the passes over the wires rest on: the wires alone, and operands that are marks' places.
-use Rattle.std.specs.Prelude.{List, ℕ, ◌≤◌, ◌<◌, length, get_or, set}
+use Rattle.std.specs.Prelude.{List, ℕ, ◌≤◌, ◌<◌, length, get_or}
 use Rattle.document.specs.Routine.{Routine, routine_of}
 use Rattle.data.specs.declared.Wire.{Wire}
 use Rattle.data.specs.declared.Shape.{Shape}

@@ -1,14 +1,9 @@
 -- `marks::first_leaves` meets its contract. The loop's invariant: the randoms from wire u on, marked too, make the first leaves.
-use mathlib.Core.Bool.{Bool}
-use mathlib.Core.List.{List}
-use mathlib.Core.Path.{◌≡◌, refl, sym, ap, ◌∙◌}
-use Prim.Native.Nat.{◌+◌, ◌-◌, ◌≤◌}
-use native.Mathlib.Omega.{arith}
-use borrow.Author.Rules.{rules}
+use mathlib.Core.Path.{◌≡◌}
+use Prim.Native.Nat.{◌-◌, ◌≤◌}
 use Rattle.document.specs.Padding.{rands_from}
 use Rattle.data.specs.Basics.{mark}
 use Rattle.marks.specs.Passes.{wired}
-use Rattle.marks.specs.Laws.Passes.{leaves_turn, leaves_end, leaves_all}
 use Rattle.marks.proofs.first_leaves.Given as goal
 
 abbrev pub invariant-loop-u : goal.invariant-loop-u

@@ -1,6 +1,5 @@
 -- `marks::mark_operands` meets its contract. Each arm marks what the definition names.
 use mathlib.Core.Path.{sym, ap}
-use borrow.Author.Rules.{rules}
 use Rattle.data.specs.declared.Kind.{Kind}
 use Rattle.document.specs.Routine.{operands_of}
 use Rattle.data.specs.Basics.{mark}

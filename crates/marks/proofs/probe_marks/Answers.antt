@@ -1,11 +1,9 @@
 -- `marks::probe_marks` meets its contract. The loop's invariant: the places from i on, marked too, make the probed wires.
-use mathlib.Core.Path.{◌≡◌, refl, sym, ◌∙◌}
-use Prim.Native.Nat.{◌-◌, ◌≤◌}
+use mathlib.Core.Path.{◌≡◌, sym, ◌∙◌}
 use native.Mathlib.Omega.{arith}
 use borrow.Author.Rules.{rules}
-use lib.ListN.{length, take, drop}
+use lib.ListN.{length}
 use Rattle.document.specs.Padding.{probed}
-use Rattle.data.specs.Basics.{mark}
 use Rattle.marks.specs.Laws.Passes.{probed_turn, probed_end}
 use Rattle.marks.proofs.probe_marks.Goals as goal
 

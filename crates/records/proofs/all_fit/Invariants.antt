@@ -1,12 +1,8 @@
 -- `records::all_fit` meets its contract. The loop's invariant: `good` says whether all records passed fit.
-use mathlib.Core.Bool.{Bool, ◌&&◌}
-use mathlib.Core.Path.{◌≡◌, sym, ap, ◌∙◌}
-use Prim.Native.Nat.{ℕ, ◌-◌, ◌≤◌}
-use native.Mathlib.Omega.{arith}
-use borrow.Author.Rules.{rules}
+use mathlib.Core.Path.{◌≡◌}
+use Prim.Native.Nat.{◌-◌, ◌≤◌}
 use Rattle.data.specs.Basics.{all}
 use Rattle.counts.specs.Counting.{record_at}
-use Rattle.records.specs.Laws.Parts.{all_none, all_more}
 use Rattle.records.specs.Records.{fits_at}
 use Rattle.records.proofs.all_fit.Given as goal
 

@@ -1,5 +1,4 @@
 -- `records::record_fits` meets its contract, kind by kind.
-use borrow.Author.Rules.{rules}
 use Rattle.document.specs.Routine.{fits}
 use Rattle.records.specs.Records.{fits_at}
 use Rattle.records.proofs.record_fits.Goals as goal

@@ -2,7 +2,6 @@
 use mathlib.Core.Path.{sym, ap, ◌∙◌}
 use native.Mathlib.Omega.{arith}
 use borrow.Author.Tests.{not-true, not-false}
-use borrow.Author.Rules.{rules}
 use Rattle.data.proofs.Listings.{listing_long}
 use Rattle.counts.specs.Counting.{ceilings_met}
 use Rattle.records.specs.Laws.Parts.{in_range_lem, too_long, range_fails, shares_fail, ceilings_fail, rest_fits}

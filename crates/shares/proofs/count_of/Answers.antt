@@ -2,11 +2,9 @@
 use mathlib.Core.Path.{ap, ◌∙◌}
 use Prim.Native.Nat.{ℕ, ◌*◌}
 use native.Mathlib.Omega.{arith}
-use borrow.Author.Rules.{rules}
-use lib.Pow.{pow_pos}
 use lib.Count.{ones}
 use lib.Bits.{bit_and}
-use Rattle.shares.specs.Laws.Words.{one_shl, mask_word, ones_masked}
+use Rattle.shares.specs.Laws.Words.{mask_word, ones_masked}
 use Rattle.shares.proofs.count_of.Goals as goal
 
 pub returns : goal.returns

@@ -1,12 +1,7 @@
 -- `shares::over` meets its contract. The loop's invariant: whether one of the secrets passed is over the bound.
-use mathlib.Core.Bool.{Bool, ◌||◌}
-use mathlib.Core.Path.{◌≡◌, ap, ap₂, ◌∙◌}
-use Prim.Native.Nat.{ℕ, ◌-◌, ◌≤◌}
-use native.Mathlib.Omega.{arith}
-use borrow.Author.Rules.{rules}
-use lib.Dec.{ltb}
+use mathlib.Core.Path.{◌≡◌}
+use Prim.Native.Nat.{◌-◌, ◌≤◌}
 use Rattle.shares.specs.Words.{some_over}
-use Rattle.shares.specs.Laws.Words.{secret_fits, over_none, over_more}
 use Rattle.shares.proofs.over.Given as goal
 
 abbrev pub invariant-loop-i : goal.invariant-loop-i

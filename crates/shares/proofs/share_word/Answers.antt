@@ -1,9 +1,8 @@
 -- `shares::share_word` meets its contract. The loop's invariant: the word has the bits below k.
-use mathlib.Core.Path.{◌≡◌, ap, ap₂, ◌∙◌}
-use Prim.Native.Nat.{ℕ, ◌+◌, ◌-◌, ◌≤◌, ◌<◌, ◌^◌}
+use mathlib.Core.Path.{ap₂, ◌∙◌}
+use Prim.Native.Nat.{◌+◌, ◌<◌, ◌^◌}
 use native.Mathlib.Omega.{arith}
 use borrow.Author.Rules.{rules}
-use Rattle.document.specs.Padding.{word}
 use Rattle.data.specs.Basics.{at}
 use Rattle.shares.specs.Laws.Words.{word_none, word_more, word_fits}
 use Rattle.shares.proofs.share_word.Goals as goal

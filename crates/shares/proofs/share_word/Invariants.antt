@@ -1,11 +1,8 @@
 -- `shares::share_word` meets its contract. The loop's invariant: the word has the bits below k.
-use mathlib.Core.Path.{◌≡◌, ap, ap₂, ◌∙◌}
-use Prim.Native.Nat.{ℕ, ◌+◌, ◌-◌, ◌≤◌, ◌<◌, ◌^◌}
-use native.Mathlib.Omega.{arith}
-use borrow.Author.Rules.{rules}
+use mathlib.Core.Path.{◌≡◌}
+use Prim.Native.Nat.{◌-◌, ◌≤◌}
 use Rattle.document.specs.Padding.{word}
 use Rattle.data.specs.Basics.{at}
-use Rattle.shares.specs.Laws.Words.{word_none, word_more, word_fits}
 use Rattle.shares.proofs.share_word.Given as goal
 
 abbrev pub invariant-loop-k : goal.invariant-loop-k

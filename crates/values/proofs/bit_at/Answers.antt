@@ -1,8 +1,4 @@
 -- `values::bit_at` meets its contract: a shift and a mask give the bit, and no word has one from 64 on.
-use Prim.Native.Nat.{◌/◌, ◌^◌}
-use native.Mathlib.Omega.{arith}
-use borrow.Author.Rules.{rules}
-use lib.Bits.{and_le_r}
 use Rattle.values.specs.Laws.Bits.{bit_is, bit_none}
 use Rattle.values.proofs.bit_at.Goals as goal
 

@@ -1,5 +1,4 @@
 -- `values::value_of` meets its contract, kind by kind.
-use borrow.Author.Rules.{rules}
 use Rattle.document.specs.Running.{gives}
 use Rattle.values.proofs.value_of.Goals as goal
 

@@ -1,5 +1,4 @@
 -- `values::words_fit` meets its contract, word by word.
-use borrow.Author.Rules.{rules}
 use Rattle.values.specs.Words.{words_fit}
 use Rattle.values.proofs.words_fit.Goals as goal
 
