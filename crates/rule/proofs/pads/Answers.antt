@@ -1,0 +1,23 @@
+-- `rule::pads` meets its contract: a refusal, or what the set comes to.
+use mathlib.Core.Path.{sym, ◌∙◌}
+use borrow.Author.Rules.{rules}
+use Rattle.asking.specs.Laws.Checks.{passed_of}
+use Rattle.rule.specs.Laws.Answers.{padding_not, padding_done}
+use Rattle.rule.proofs.pads.Goals as goal
+
+pub observe-seen-requires : goal.observe-seen-requires
+observe-seen-requires c = let t = c in
+    let a = t.args in
+    passed_of a.listing.shape a.listing.wires a.t a.set (sym t.check_set-outcome.ensures ∙ c.in-Done.is)
+
+pub returns-in-Refused : goal.returns-in-Refused
+returns-in-Refused c = let t = c in
+    let a = t.args in
+    c.padded_not.ensures
+    ∙ padding_not a.listing.shape a.listing.wires a.t a.set _ (sym t.check_set-outcome.ensures ∙ c.in-Refused.is)
+
+pub returns-in-Done : goal.returns-in-Done
+returns-in-Done c = let t = c in
+    let a = t.args in
+    let done = sym t.check_set-outcome.ensures ∙ c.in-Done.is in
+    padding_done a.listing.shape a.listing.wires a.t a.set done _ c.observe-seen.ensures

@@ -1,0 +1,24 @@
+-- `rule::run_to_end` meets its contract. The loop's invariant: the steps still to come lead to the end of the whole run.
+use mathlib.Core.Option.{none, some}
+use mathlib.Core.Bool.{Bool}
+use mathlib.Core.List.{List}
+use mathlib.Core.Path.{◌≡◌, sym, ap, ◌∙◌}
+use Prim.Native.Nat.{◌+◌, ◌-◌, ◌≤◌}
+use native.Mathlib.Omega.{arith}
+use borrow.Author.Rules.{rules}
+use lib.Seq.{length-take-le}
+use lib.ListN.{replicate}
+use Rattle.document.specs.Padding.{next_step}
+use Rattle.document.specs.Judgements.{no_step}
+use Rattle.step.specs.Next.{step_in}
+use Rattle.marks.specs.Passes.{wired}
+use Rattle.rule.specs.Run.{gone_on, run_begun}
+use Rattle.rule.specs.Laws.Run.{run_full, run_ended, run_more, next_below, run_all}
+use Rattle.rule.specs.declared.Run.{Run}
+use Rattle.rule.proofs.run_to_end.Given as goal
+
+abbrev pub invariant-loop-run : goal.invariant-loop-run
+invariant-loop-run l = (l.run.len ≤ l.n) × (gone_on (wired l.n l.ws) l.probe (l.n - l.run.len) l.run ≡ gone_on (wired l.n l.ws) l.probe (l.n - 0) (run_begun (wired l.n l.ws)))
+
+abbrev pub decreases-loop-run : goal.decreases-loop-run
+decreases-loop-run l = l.n - l.run.len
