@@ -1,5 +1,5 @@
 -- The round trips of the routine text (1.49 to 1.51, for demand 2 in 9.10), and which records a text can give (1.35).
-use Rattle.std.specs.Prelude.{◌≡◌, true, List, ◌↔◌, ℕ, ◌-◌, ◌*◌, ◌≤◌, ◌<◌, length}
+use Rattle.std.specs.Prelude.{◌≡◌, true, List, ◌↔◌, ℕ, ◌*◌, ◌≤◌, ◌<◌, length}
 use Rattle.std.proofs.Common.{sym, ap, subst, ◌∙◌}
 use Rattle.data.specs.declared.Wire.{Wire}
 use Rattle.data.specs.declared.Outcome.TheVariants.{Done}
