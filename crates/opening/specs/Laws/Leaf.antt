@@ -91,21 +91,21 @@ module _ {q : Question} {g : Grown} (A : Asked q g) where
   own_open h = own_closed (judgement_of q.which) (steady_of q.which) R sound q.t ps ascends (seen_of g) sees h
       (λ qs a p l. A.smaller qs a p (let z = long in omega arith))
 
-  bound_of : (b : ℕ) → b ≡ bound_of q.which q.listing.wires q.t ps → b ≡ (judgement_of q.which).bound R q.t ps
-  bound_of b e = e ∙ bound_is q.which q.listing.shape q.listing.wires q.t ps A.grows.ascends
+  bound_of_lem : (b : ℕ) → b ≡ bound_of q.which q.listing.wires q.t ps → b ≡ (judgement_of q.which).bound R q.t ps
+  bound_of_lem b e = e ∙ bound_is q.which q.listing.shape q.listing.wires q.t ps A.grows.ascends
 
   pub cones_open : (b : ℕ) → b ≡ bound_of q.which q.listing.wires q.t ps → g.shares < 2 ^ 64
       → some_over q.listing.shape.s q.listing.shape.d g.shares b ≡ false → opens_in q ps ≡ false
   unfolding some_over ones_of bits_of
   cones_open b e small o = cones_closed (judgement_of q.which) (steady_of q.which) R sound q.t ps ascends (seen_of g) sees small
       (λ i i<S. let z = ltb_false b (ones (g.shares / 2 ^ (i * q.listing.shape.d) % 2 ^ q.listing.shape.d))
-      (some_none q.listing.shape.s _ o i i<S) in let y = bound_of b e in omega arith)
+      (some_none q.listing.shape.s _ o i i<S) in let y = bound_of_lem b e in omega arith)
 
   pub run_open : (b word : ℕ) (probe : Marks) → b ≡ bound_of q.which q.listing.wires q.t ps → probe ≡ probed ps → word ≡ needed_by R probe
       → some_over q.listing.shape.s q.listing.shape.d word b ≡ opens_in q ps
   unfolding some_over ones_of is_open needed_of bits_of
   run_open b word probe e m u =
       let w : word ≡ needed_shares R ps = u ∙ ap (needed_by R) m ∙ needed_is R ps in
-      ap₂ (λ (c v : ℕ). some q.listing.shape.s (λ i. ltb c (ones (v / 2 ^ (i * q.listing.shape.d) % 2 ^ q.listing.shape.d)))) (bound_of b e) w
+      ap₂ (λ (c v : ℕ). some q.listing.shape.s (λ i. ltb c (ones (v / 2 ^ (i * q.listing.shape.d) % 2 ^ q.listing.shape.d)))) (bound_of_lem b e) w
       ∙ ap (λ (qs : List ℕ). some q.listing.shape.s (λ i. ltb ((judgement_of q.which).bound R q.t ps) (needed_of R qs i)))
       (sym ((steady_of q.which).watches R ps))

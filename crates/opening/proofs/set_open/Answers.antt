@@ -1,0 +1,37 @@
+-- `opening::set_open` meets its contract: an own random, the cones, or the run decides.
+use mathlib.Core.Path.{sym, ◌∙◌}
+use native.Mathlib.Omega.{arith}
+use borrow.Author.Tests.{not-true}
+use Rattle.opening.specs.Laws.Leaf.{holding, low_probes, own_open, cones_open, run_open}
+use Rattle.rule.specs.Laws.Calls.{wired_of, shares_of}
+use Rattle.opening.proofs.set_open.Goals as goal
+
+pub returns-then-g-ne0 : goal.returns-then-g-ne0
+returns-then-g-ne0 c = sym (own_open c.requires c.if-g-ne0.true)
+
+pub bound_of-bound-requires : goal.bound_of-bound-requires
+bound_of-bound-requires c = holding c.requires
+
+pub over-requires : goal.over-requires
+over-requires c = shares_of _ _ c.requires.fits
+
+pub returns-then-not-over : goal.returns-then-not-over
+returns-then-not-over c = let k = c.struct_known-1.given in
+    sym (cones_open c.requires _ c.bound_of-bound.ensures (omega arith)
+    (sym c.over.ensures ∙ not-true _ c.if-not-over.true-raw))
+
+pub probe_marks-probe-requires : goal.probe_marks-probe-requires
+probe_marks-probe-requires c = low_probes c.requires
+
+pub needed_word-needed-requires : goal.needed_word-needed-requires
+needed_word-needed-requires c = (
+  wired_of _ _ c.requires.fits,
+  shares_of _ _ c.requires.fits,
+)
+
+pub over-requires-2 : goal.over-requires-2
+over-requires-2 c = shares_of _ _ c.requires.fits
+
+pub returns : goal.returns
+returns c = c.over-2.ensures ∙ run_open c.requires _ _ _
+    c.bound_of-bound.ensures c.probe_marks-probe.ensures c.needed_word-needed.ensures
