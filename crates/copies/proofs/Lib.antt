@@ -1,3 +1,2 @@
--- Laws of lists, and arrays of records by value, as the walks of this crate and of those above it share them.
+-- Laws of lists, as the proofs of this crate share them.
 pub mod Lists
-pub mod Arrays

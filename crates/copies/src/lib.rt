@@ -32,7 +32,8 @@ fn fetch(list: &[Wire], k: usize) -> [Wire; 128]
     let mut ws = listing::blank_wires();
     let mut i = 0;
     while i < k {
-        ws = with_record(ws, i, list[i]);
+        let next = with_record(ws, i, list[i]);
+        ws = next;
         i += 1;
     }
     ws
