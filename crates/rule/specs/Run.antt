@@ -3,7 +3,7 @@ use Rattle.std.specs.Prelude.{List, ℕ, ◌+◌, ◌*◌, length, set, replicat
 use Rattle.std.proofs.lemmas.List.Edits.{sets}
 use Rattle.data.specs.Basics.{Marks, at, mark}
 use Rattle.document.specs.Routine.{Routine, size}
-use Rattle.document.specs.Padding.{first_leaves, live, stepped, steps_from, steps, padded_wires, word}
+use Rattle.document.specs.Padding.{first_leaves, live, stepped, steps_from, padded_wires, word}
 use Rattle.document.specs.Judgements.{no_step}
 use Rattle.data.specs.declared.Step.{Step}
 use Rattle.rule.specs.declared.Run.{Run}

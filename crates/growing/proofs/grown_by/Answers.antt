@@ -1,5 +1,4 @@
 -- `growing::grown_by` meets its contract.
-use borrow.Author.Rules.{rules}
 use Rattle.growing.specs.Laws.Growing.{grown_is}
 use Rattle.growing.proofs.grown_by.Goals as goal
 

@@ -1,12 +1,8 @@
 -- `growing::inner_of` meets its contract. The loop's invariant: the count is that of the wires passed that are no outputs.
-use mathlib.Core.Logic.{⊎_elim}
-use mathlib.Core.Path.{◌≡◌, ap, ◌∙◌}
-use Prim.Native.Nat.{ℕ, ◌-◌, ◌≤◌}
-use native.Mathlib.Omega.{arith}
-use borrow.Author.Rules.{rules}
+use mathlib.Core.Path.{◌≡◌}
+use Prim.Native.Nat.{◌-◌, ◌≤◌}
 use lib.ListN.{take}
 use Rattle.growing.specs.Growing.{inner_of}
-use Rattle.growing.specs.Laws.Growing.{inner_none, inner_counts, inner_stays}
 use Rattle.growing.proofs.inner_of.Given as goal
 
 abbrev pub invariant-loop-i : goal.invariant-loop-i

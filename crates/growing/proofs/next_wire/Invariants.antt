@@ -1,10 +1,6 @@
 -- `growing::next_wire` meets its contract. The loop's invariant: each wire passed makes a set with an own random.
-use mathlib.Core.Path.{◌∙◌}
 use Prim.Native.Nat.{◌-◌}
-use native.Mathlib.Omega.{arith}
-use borrow.Author.Rules.{rules}
 use Rattle.growing.specs.Growing.{Skipped}
-use Rattle.growing.specs.Laws.Growing.{skipped_none, skipped_more}
 use Rattle.growing.proofs.next_wire.Given as goal
 
 abbrev pub invariant-loop-w : goal.invariant-loop-w

@@ -1,6 +1,5 @@
 -- `judge::judge` meets its contract: 11, 12, then what is found.
 use mathlib.Core.Path.{sym, ◌∙◌}
-use borrow.Author.Rules.{rules}
 use borrow.Author.Tests.{not-true, not-false}
 use Rattle.asking.specs.Laws.Checks.{order_high}
 use Rattle.judge.specs.Laws.Answers.{not_records, not_order, judged_answer}

@@ -1,7 +1,6 @@
 -- `rule::needed_word` meets its contract. The run's leaves are the last.
 use mathlib.Core.Path.{ap, ◌∙◌}
 use Prim.Native.Nat.{◌*◌}
-use borrow.Author.Rules.{rules}
 use Rattle.document.specs.Padding.{word, live}
 use Rattle.data.specs.Basics.{at}
 use Rattle.marks.specs.Passes.{wired}

@@ -1,6 +1,5 @@
 -- `rule::needs` meets its contract: a refusal, or what the set comes to.
 use mathlib.Core.Path.{sym, ◌∙◌}
-use borrow.Author.Rules.{rules}
 use Rattle.asking.specs.Laws.Checks.{passed_of}
 use Rattle.rule.specs.Laws.Answers.{needing_not, needing_done}
 use Rattle.rule.proofs.needs.Goals as goal

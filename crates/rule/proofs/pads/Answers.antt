@@ -1,6 +1,5 @@
 -- `rule::pads` meets its contract: a refusal, or what the set comes to.
 use mathlib.Core.Path.{sym, ◌∙◌}
-use borrow.Author.Rules.{rules}
 use Rattle.asking.specs.Laws.Checks.{passed_of}
 use Rattle.rule.specs.Laws.Answers.{padding_not, padding_done}
 use Rattle.rule.proofs.pads.Goals as goal

@@ -1,20 +1,8 @@
 -- `rule::run_to_end` meets its contract. The loop's invariant: the steps still to come lead to the end of the whole run.
-use mathlib.Core.Option.{none, some}
-use mathlib.Core.Bool.{Bool}
-use mathlib.Core.List.{List}
-use mathlib.Core.Path.{◌≡◌, sym, ap, ◌∙◌}
-use Prim.Native.Nat.{◌+◌, ◌-◌, ◌≤◌}
-use native.Mathlib.Omega.{arith}
-use borrow.Author.Rules.{rules}
-use lib.Seq.{length-take-le}
-use lib.ListN.{replicate}
-use Rattle.document.specs.Padding.{next_step}
-use Rattle.document.specs.Judgements.{no_step}
-use Rattle.step.specs.Next.{step_in}
+use mathlib.Core.Path.{◌≡◌}
+use Prim.Native.Nat.{◌-◌, ◌≤◌}
 use Rattle.marks.specs.Passes.{wired}
 use Rattle.rule.specs.Run.{gone_on, run_begun}
-use Rattle.rule.specs.Laws.Run.{run_full, run_ended, run_more, next_below, run_all}
-use Rattle.rule.specs.declared.Run.{Run}
 use Rattle.rule.proofs.run_to_end.Given as goal
 
 abbrev pub invariant-loop-run : goal.invariant-loop-run

@@ -3,7 +3,6 @@ use mathlib.Core.Path.{sym, ◌∙◌}
 use Prim.Native.Nat.{◌-◌}
 use native.Mathlib.Nat.{pos_of_ne-zero}
 use native.Mathlib.Omega.{arith}
-use borrow.Author.Rules.{rules}
 use Rattle.data.specs.ProbeSets.{held}
 use Rattle.growing.specs.Growing.{opens_in}
 use Rattle.searching.specs.Laws.Skipping.{reached, turn_end, turn_more, turn_hit, turn_rest, turn_miss}

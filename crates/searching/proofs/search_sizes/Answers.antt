@@ -1,11 +1,8 @@
 -- `searching::search_sizes` meets its contract. The loop's invariant: nothing is open among the sets of the sizes passed.
-use mathlib.Core.Bool.{false}
-use mathlib.Core.Path.{◌≡◌, ap, ◌∙◌}
-use Prim.Native.Nat.{ℕ, ◌+◌, ◌-◌, ◌≤◌}
+use mathlib.Core.Path.{ap, ◌∙◌}
+use Prim.Native.Nat.{◌+◌}
 use native.Mathlib.Omega.{arith}
 use borrow.Author.Rules.{rules}
-use Rattle.growing.specs.Growing.{opens_in}
-use Rattle.searching.specs.Search.{found_up_to}
 use Rattle.searching.specs.Laws.Sizes.{found_none, found_stays, size_asked, size_found}
 use Rattle.growing.specs.declared.Found.{Found}
 use Rattle.searching.proofs.search_sizes.Goals as goal

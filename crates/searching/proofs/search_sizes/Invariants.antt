@@ -1,13 +1,9 @@
 -- `searching::search_sizes` meets its contract. The loop's invariant: nothing is open among the sets of the sizes passed.
 use mathlib.Core.Bool.{false}
-use mathlib.Core.Path.{◌≡◌, ap, ◌∙◌}
-use Prim.Native.Nat.{ℕ, ◌+◌, ◌-◌, ◌≤◌}
-use native.Mathlib.Omega.{arith}
-use borrow.Author.Rules.{rules}
+use mathlib.Core.Path.{◌≡◌}
+use Prim.Native.Nat.{◌-◌, ◌≤◌}
 use Rattle.growing.specs.Growing.{opens_in}
 use Rattle.searching.specs.Search.{found_up_to}
-use Rattle.searching.specs.Laws.Sizes.{found_none, found_stays, size_asked, size_found}
-use Rattle.growing.specs.declared.Found.{Found}
 use Rattle.searching.proofs.search_sizes.Given as goal
 
 abbrev pub invariant-loop-size : goal.invariant-loop-size
