@@ -1,3 +1,2 @@
 -- The tests before a call on one set, and the laws about them.
 pub mod Checks
-pub mod Laws

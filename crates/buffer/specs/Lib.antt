@@ -1,4 +1,3 @@
 -- Bytes put into a lent buffer.
 pub mod Put
 pub mod Begins
-pub mod Laws

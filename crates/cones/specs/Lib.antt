@@ -3,4 +3,3 @@ pub mod Bits
 pub mod Tables
 pub mod Making
 pub mod Seen
-pub mod Laws

@@ -1,3 +1,2 @@
 -- The counts of consumers, and the laws about them.
 pub mod Consumers
-pub mod Laws

@@ -1,2 +1,3 @@
 -- Laws of lists, as the proofs of this crate share them.
 pub mod Lists
+pub mod Laws

@@ -1,3 +1,2 @@
 -- The first records of a lent list, and their laws.
 pub mod First
-pub mod Laws

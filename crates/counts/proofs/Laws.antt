@@ -1,4 +1,5 @@
--- A small law of numbers, for the sums of `counts::count_record`.
+-- The counts record by record, and those of a routine; and a small law of numbers, for the sums of `counts::count_record`.
+pub mod Counts
 use mathlib.Core.Path.{◌≡◌}
 use mathlib.Core.Bool.{Bool, true, false}
 use Prim.Native.Nat.{ℕ, ◌≤◌}

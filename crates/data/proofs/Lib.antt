@@ -1,2 +1,3 @@
 -- What proofs over the data share.
 pub mod Listings
+pub mod Laws

@@ -3,4 +3,3 @@ pub mod Basics
 pub mod Refusals
 pub mod ProbeSets
 pub mod Placing
-pub mod Laws

@@ -11,7 +11,3 @@ pub mod Starts
 pub mod Worth
 pub mod Lent
 pub mod Desk
-pub mod Examples
-pub mod Laws
-pub mod Theorems
-pub mod RefusalTheorems

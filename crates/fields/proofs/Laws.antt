@@ -10,7 +10,7 @@ use lib.Seq.{take_all}
 use lib.Dec.{leb, eqb}
 use borrow.Author.Tests.{leb-true, eq-eqb, ne_eqb}
 use Rattle.data.specs.Basics.{same}
-use Rattle.data.specs.Laws.Tests.{and_l, and_r}
+use Rattle.data.proofs.Laws.Tests.{and_l, and_r}
 use Rattle.document.specs.Lines.{cut, front, number, digit, lead, word_of, spelled, digit_zero, digit_one, digit_nine}
 use Rattle.data.specs.declared.Number.{Number}
 use Rattle.data.specs.declared.Number.TheVariants.{Bad}

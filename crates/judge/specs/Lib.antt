@@ -1,3 +1,2 @@
 -- The answer of a judgement, and the laws about it.
 pub mod Answers
-pub mod Laws

@@ -2,7 +2,7 @@
 use mathlib.Core.Path.{◌≡◌, refl}
 use mathlib.Core.List.{List, [], ◌∷◌}
 use Prim.Native.Nat.{ℕ}
-use Rattle.document.specs.Laws.Cuts.{cut_some}
+use Rattle.document.proofs.Laws.Cuts.{cut_some}
 use Rattle.document.specs.Lines.{cut, of_fields, word_of}
 use Rattle.data.specs.declared.Number.{Number}
 use Rattle.data.specs.declared.Word.{Word}

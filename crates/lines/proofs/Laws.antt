@@ -10,7 +10,7 @@ use lib.Dec.{leb, lit≤}
 use lib.ListN.{length, take, drop, set, length-drop}
 use lib.Seq.{drop-drop}
 use borrow.Author.Tests.{leb-true}
-use Rattle.data.specs.Laws.Tests.{and_l, and_r}
+use Rattle.data.proofs.Laws.Tests.{and_l, and_r}
 use Rattle.document.specs.Routine.{in_range}
 use Rattle.document.specs.Lines.{cut, heads, lf, line_of, lines_in}
 use Rattle.document.specs.Reading.{take_line, not_read, read_all, onward, read_lines, share_records, begun}
@@ -20,7 +20,7 @@ use Rattle.data.specs.declared.Refusal.{Refusal}
 use Rattle.data.specs.declared.Outcome.TheVariants.{Done, Refused}
 use Rattle.data.specs.declared.State.{State}
 use Rattle.data.specs.declared.Taken.{Taken}
-use Rattle.document.specs.Laws.Cuts.{cut_some}
+use Rattle.document.proofs.Laws.Cuts.{cut_some}
 use Rattle.state.specs.Ceilings.{UnderCeilings}
 use Rattle.taking.proofs.LineLaws.{take_bounded}
 

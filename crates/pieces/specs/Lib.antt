@@ -1,3 +1,2 @@
 -- What the text of a routine has of one wire, and its laws.
 pub mod Pieces
-pub mod Laws

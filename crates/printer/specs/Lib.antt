@@ -1,4 +1,3 @@
 -- The printed lines field by field, how long they can be, and their laws.
 pub mod Fields
 pub mod Rooms
-pub mod Laws

@@ -1,3 +1,2 @@
 // One page of what is promised, theorem by theorem in the order of the demands; it stands in specs/, and nothing here computes.
 #![tactic(auto)]
-

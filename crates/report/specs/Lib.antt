@@ -1,3 +1,2 @@
 -- What a report promises, and the laws about it.
 pub mod Reports
-pub mod Laws

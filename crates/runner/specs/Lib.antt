@@ -1,3 +1,2 @@
 -- The parts of a run, and their laws.
 pub mod Run
-pub mod Laws

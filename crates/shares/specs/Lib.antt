@@ -1,3 +1,2 @@
 -- What the words of shares hold, and the laws about it.
 pub mod Words
-pub mod Laws

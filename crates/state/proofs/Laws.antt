@@ -6,7 +6,7 @@ use native.Mathlib.Omega.{arith}
 use lib.Dec.{leb, ltb}
 use borrow.Author.Tests.{leb-true, ltb-true, lt-ltb, le-ltb, lt-leb, le-leb}
 use Rattle.data.specs.Basics.{one, each}
-use Rattle.data.specs.Laws.Tests.{and_l, and_r}
+use Rattle.data.proofs.Laws.Tests.{and_l, and_r}
 use Rattle.document.specs.Routine.{is_rand, is_pub, operands_of}
 use Rattle.document.specs.Reading.{earlier, has_room}
 use Rattle.data.specs.declared.Kind.{Kind}

@@ -5,7 +5,7 @@ use Prim.Native.Nat.{ℕ, ◌≤◌}
 use native.Mathlib.Omega.{arith}
 use lib.Dec.{leb, eqb, ltb}
 use borrow.Author.Tests.{eqb-true, ltb-true}
-use Rattle.data.specs.Laws.Tests.{and_l, and_r, cond_cases}
+use Rattle.data.proofs.Laws.Tests.{and_l, and_r, cond_cases}
 use Rattle.document.specs.Reading.{taken, not_taken, made, marked, is_next, earlier, has_room, make, mark_out, take_line}
 use Rattle.data.specs.declared.Kind.{Kind}
 use Rattle.data.specs.declared.Kind.TheVariants as K

@@ -4,8 +4,8 @@ use Rattle.document.specs.Reading.{reading, routine_in}
 use Rattle.document.specs.Judgements.{plain, told}
 use Rattle.document.specs.Lent.{lent_judged}
 use Rattle.document.specs.Worth.{KeepsSecrets}
-use Rattle.document.specs.Theorems.{lent_pass_keeps}
-use Rattle.document.specs.RefusalTheorems.{told_pass}
+use Rattle.document.proofs.Theorems.{lent_pass_keeps}
+use Rattle.document.proofs.RefusalTheorems.{told_pass}
 use Rattle.data.specs.declared.Read.{Read}
 
 abbrev pub passes_read : Read → Bool

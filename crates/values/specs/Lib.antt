@@ -1,3 +1,2 @@
 -- The lent words against the counts, and the laws of their bits.
 pub mod Words
-pub mod Laws

@@ -1,3 +1,2 @@
 -- The text in the order of the code, and its laws.
 pub mod Parts
-pub mod Laws

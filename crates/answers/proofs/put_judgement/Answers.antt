@@ -1,7 +1,7 @@
 -- `answers::put_judgement` meets its contract: what the judgement answers, behind its word.
 use Rattle.data.specs.declared.Which.TheVariants.{Plain, Strong}
-use Rattle.buffer.specs.Laws.Puts.{put_same}
-use Rattle.answers.specs.Laws.Orders.{line_is_judged}
+use Rattle.buffer.proofs.Laws.Puts.{put_same}
+use Rattle.answers.proofs.Laws.Orders.{line_is_judged}
 use Rattle.answers.proofs.put_judgement.Goals as goal
 
 pub returns-in-Plain : goal.returns-in-Plain

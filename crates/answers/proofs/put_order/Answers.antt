@@ -2,9 +2,9 @@
 use native.Mathlib.Omega.{arith}
 use Rattle.document.specs.Routine.{routine_of}
 use Rattle.data.specs.declared.Which.TheVariants.{Plain}
-use Rattle.buffer.specs.Laws.Puts.{put_long, put_then}
+use Rattle.buffer.proofs.Laws.Puts.{put_long, put_then}
 use Rattle.answers.specs.Orders.{order_pair}
-use Rattle.answers.specs.Laws.Rooms.{line_ends}
+use Rattle.answers.proofs.Laws.Rooms.{line_ends}
 use Rattle.answers.proofs.put_order.Goals as goal
 
 pub put_judgement-requires : goal.put_judgement-requires

@@ -3,9 +3,9 @@ use mathlib.Core.Path.{refl, sym, ◌∙◌}
 use native.Mathlib.Omega.{arith}
 use borrow.Author.Rules.{rules}
 use Rattle.document.specs.Routine.{routine_of}
-use Rattle.answers.specs.Laws.Orders.{orders_none, orders_more}
-use Rattle.answers.specs.Laws.Rooms.{orders_few}
-use Rattle.buffer.specs.Laws.Puts.{put_none, put_long, put_then, put_same}
+use Rattle.answers.proofs.Laws.Orders.{orders_none, orders_more}
+use Rattle.answers.proofs.Laws.Rooms.{orders_few}
+use Rattle.buffer.proofs.Laws.Puts.{put_none, put_long, put_then, put_same}
 use Rattle.answers.proofs.put_orders.Goals as goal
 
 pub loop-t-init : goal.loop-t-init

@@ -3,7 +3,7 @@ use mathlib.Core.Path.{◌≡◌, sym, ◌∙◌}
 use native.Mathlib.Omega.{arith}
 use borrow.Author.Rules.{rules}
 use lib.ListN.{length}
-use Rattle.asking.specs.Laws.Checks.{named_on, named_not, named_end}
+use Rattle.asking.proofs.Laws.Checks.{named_on, named_not, named_end}
 use Rattle.asking.proofs.all_named.Goals as goal
 
 pub returns-then-n-places : goal.returns-then-n-places

@@ -1,7 +1,7 @@
 -- `asking::check_set` meets its contract. Each return is one refusal of 7.22, in its order.
 use mathlib.Core.Path.{sym, ◌∙◌}
 use borrow.Author.Tests.{not-true, not-false}
-use Rattle.asking.specs.Laws.Checks.{order_high, check_records, check_order, check_probes, check_passes}
+use Rattle.asking.proofs.Laws.Checks.{order_high, check_records, check_order, check_probes, check_passes}
 use Rattle.asking.proofs.check_set.Goals as goal
 
 pub returns-then-not-records_fit : goal.returns-then-not-records_fit

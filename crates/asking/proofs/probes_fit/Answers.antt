@@ -2,7 +2,7 @@
 use mathlib.Core.Path.{sym, ◌∙◌}
 use native.Mathlib.Omega.{arith}
 use borrow.Author.Tests.{not-true, not-false}
-use Rattle.asking.specs.Laws.Checks.{empty_refused, large_refused, unordered_refused, named_decides}
+use Rattle.asking.proofs.Laws.Checks.{empty_refused, large_refused, unordered_refused, named_decides}
 use Rattle.asking.proofs.probes_fit.Goals as goal
 
 pub returns-then-len-eq0 : goal.returns-then-len-eq0

@@ -1,5 +1,5 @@
 -- `buffer::put_byte` meets its contract: one store.
-use Rattle.buffer.specs.Laws.Puts.{put_one}
+use Rattle.buffer.proofs.Laws.Puts.{put_one}
 use Rattle.buffer.proofs.put_byte.Goals as goal
 
 pub returns : goal.returns

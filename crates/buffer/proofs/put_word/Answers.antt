@@ -3,7 +3,7 @@ use mathlib.Core.Path.{refl}
 use native.Mathlib.Omega.{arith}
 use borrow.Author.Rules.{rules}
 use lib.ListN.{length-set}
-use Rattle.buffer.specs.Laws.Puts.{put_none, put_next}
+use Rattle.buffer.proofs.Laws.Puts.{put_none, put_next}
 use Rattle.buffer.proofs.put_word.Goals as goal
 
 pub loop-j-init : goal.loop-j-init

@@ -3,9 +3,9 @@ use mathlib.Core.Path.{refl, sym, ap, ◌∙◌}
 use native.Mathlib.Omega.{arith}
 use borrow.Author.Rules.{rules}
 use lib.ListN.{length-set}
-use Rattle.cones.specs.Laws.Making.{inside, place_below, no_own, own_turn}
-use Rattle.records.specs.Laws.Fitting.{fit_of}
-use Rattle.counts.specs.Laws.Counts.{counts_none, counts_more, counts_room}
+use Rattle.cones.proofs.Laws.Making.{inside, place_below, no_own, own_turn}
+use Rattle.records.proofs.Laws.Fitting.{fit_of}
+use Rattle.counts.proofs.Laws.Counts.{counts_none, counts_more, counts_room}
 use Rattle.counts.specs.Counting.{record_at, with_record}
 use Rattle.counts.specs.declared.Counts.{Counts}
 use Rattle.cones.proofs.own_rands.Goals as goal

@@ -3,8 +3,8 @@ use mathlib.Core.Path.{refl, ◌∙◌}
 use native.Mathlib.Omega.{arith}
 use borrow.Author.Rules.{rules}
 use lib.ListN.{length-set}
-use Rattle.cones.specs.Laws.Making.{inside, no_shares, share_bit_lem, share_turn}
-use Rattle.records.specs.Laws.Fitting.{fit_of}
+use Rattle.cones.proofs.Laws.Making.{inside, no_shares, share_bit_lem, share_turn}
+use Rattle.records.proofs.Laws.Fitting.{fit_of}
 use Rattle.cones.proofs.share_cones.Goals as goal
 
 pub overflow_mul-shares : goal.overflow_mul-shares

@@ -5,9 +5,9 @@ use Prim.Native.Nat.{◌-◌}
 use native.Mathlib.Omega.{arith}
 use borrow.Author.Tests.{not-true}
 use borrow.Author.Rules.{rules}
-use Rattle.data.specs.Laws.Tests.{and_false}
+use Rattle.data.proofs.Laws.Tests.{and_false}
 use Rattle.data.specs.Basics.{at}
-use Rattle.consumers.specs.Laws.Consumers.{counts_none, counts_spare, counts_on, counts_off}
+use Rattle.consumers.proofs.Laws.Consumers.{counts_none, counts_spare, counts_on, counts_off}
 use Rattle.consumers.proofs.consumer_counts.Goals as goal
 use Rattle.consumers.proofs.consumer_counts.Goals.{else-alive-u-via-then-alive-u+else-not-leaf-u, else-alive-u-via-else-alive-u}
 

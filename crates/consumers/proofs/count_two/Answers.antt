@@ -4,7 +4,7 @@ use mathlib.Core.Path.{sym, ap, ◌∙◌}
 use Prim.Native.Nat.{ℕ}
 use borrow.Author.Tests.{eq-eqb, ne_eqb}
 use Rattle.consumers.specs.Consumers.{bumped, bumped_two}
-use Rattle.consumers.specs.Laws.Consumers.{bumped_other}
+use Rattle.consumers.proofs.Laws.Consumers.{bumped_other}
 use Rattle.consumers.proofs.count_two.Goals as goal
 
 pub returns-then-b-a : goal.returns-then-b-a

@@ -1,7 +1,7 @@
 -- One record more is fetched.
 use Rattle.std.proofs.Common.{arith, add-one}
 use Rattle.document.specs.Reading.{blanks}
-use Rattle.copies.specs.Laws.Blanks.{length_blanks}
+use Rattle.copies.proofs.Laws.Blanks.{length_blanks}
 use Rattle.copies.proofs.Lists.{mix_more}
 use Rattle.copies.proofs.fetch.Goals as goal
 

@@ -2,7 +2,7 @@
 use mathlib.Core.Path.{sym, ap, ◌∙◌}
 use native.Mathlib.Omega.{arith}
 use borrow.Author.Rules.{rules}
-use Rattle.counts.specs.Laws.Counts.{counts_none, counts_more, counts_room}
+use Rattle.counts.proofs.Laws.Counts.{counts_none, counts_more, counts_room}
 use Rattle.counts.specs.Counting.{record_at, with_record}
 use Rattle.counts.specs.declared.Counts.{Counts}
 use Rattle.counts.proofs.count_records.Goals as goal

@@ -3,7 +3,7 @@ use mathlib.Core.Path.{◌≡◌, sym, ◌∙◌}
 use native.Mathlib.Omega.{arith}
 use borrow.Author.Rules.{rules}
 use lib.ListN.{length}
-use Rattle.data.specs.Laws.Placing.{elem_here, elem_later, elem_none}
+use Rattle.data.proofs.Laws.Placing.{elem_here, elem_later, elem_none}
 use Rattle.data.proofs.holds.Goals as goal
 
 pub returns-then-w-places : goal.returns-then-w-places

@@ -3,7 +3,7 @@ use mathlib.Core.Path.{◌≡◌, sym, ◌∙◌}
 use native.Mathlib.Omega.{arith}
 use borrow.Author.Rules.{rules}
 use lib.ListN.{length}
-use Rattle.data.specs.Laws.Placing.{ascends_on, ascends_not, ascends_end}
+use Rattle.data.proofs.Laws.Placing.{ascends_on, ascends_not, ascends_end}
 use Rattle.data.proofs.is_ascending.Goals as goal
 
 pub returns-then-places-i : goal.returns-then-places-i

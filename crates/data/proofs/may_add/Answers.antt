@@ -1,7 +1,7 @@
 -- `data::may_add` meets its contract. Each return is one part of the test that is defined.
 use mathlib.Core.Path.{sym, ◌∙◌}
 use native.Mathlib.Omega.{arith}
-use Rattle.data.specs.Laws.Placing.{full_refused, high_refused, held_refused, ascending_decides}
+use Rattle.data.proofs.Laws.Placing.{full_refused, high_refused, held_refused, ascending_decides}
 use Rattle.data.proofs.may_add.Goals as goal
 
 pub returns-then-len-ge4 : goal.returns-then-len-ge4

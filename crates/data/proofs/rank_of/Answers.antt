@@ -3,7 +3,7 @@ use mathlib.Core.Path.{◌≡◌}
 use native.Mathlib.Omega.{arith}
 use borrow.Author.Rules.{rules}
 use lib.ListN.{length}
-use Rattle.data.specs.Laws.Placing.{rank_here, rank_later, rank_none}
+use Rattle.data.proofs.Laws.Placing.{rank_here, rank_later, rank_none}
 use Rattle.data.proofs.rank_of.Goals as goal
 
 pub returns-then-w-places : goal.returns-then-w-places

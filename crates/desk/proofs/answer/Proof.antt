@@ -7,7 +7,7 @@ use borrow.Author.Rules.{rules}
 use Rattle.intake.specs.Intake.{InputWithin}
 use Rattle.intake.specs.declared.Input.{Input}
 use Rattle.desk.specs.Answers.{DeskAnswered}
-use Rattle.desk.specs.Laws.Inputs.{whole_answered, failed_answered}
+use Rattle.desk.proofs.Laws.Inputs.{whole_answered, failed_answered}
 use Rattle.desk.proofs.answer.Statement.{statement}
 use Rattle.desk.proofs.answer.Tie as tie
 

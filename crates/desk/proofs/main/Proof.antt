@@ -3,8 +3,8 @@ use mathlib.Core.Path.{sym}
 use lib.ListN.{length}
 use lib.Seq.{length-take-le}
 use borrow.Author.Rules.{rules}
-use Rattle.intake.specs.Laws.Inputs.{ended_within}
-use Rattle.buffer.specs.Laws.Beginning.{begins_within}
+use Rattle.intake.proofs.Laws.Inputs.{ended_within}
+use Rattle.buffer.proofs.Laws.Beginning.{begins_within}
 use Rattle.desk.proofs.main.Statement.{statement}
 use Rattle.desk.proofs.main.Tie as tie
 

@@ -5,9 +5,9 @@ use Rattle.document.specs.Lines.{lf, join}
 use Rattle.document.specs.Reading.{reading, routine_in}
 use Rattle.document.specs.Worth.{PassesPlain}
 use Rattle.document.specs.Desk.{space, printed, plain_word, pass_word, printed_line, desk_prints, pass_line, HasLine}
-use Rattle.document.specs.Theorems.{printed_pass_keeps, cut_prints_same}
+use Rattle.document.proofs.Theorems.{printed_pass_keeps, cut_prints_same}
 use Rattle.data.specs.declared.Outcome.TheVariants.{Done}
-use Rattle.buffer.specs.Laws.Beginning.{begins_first}
+use Rattle.buffer.proofs.Laws.Beginning.{begins_first}
 use Rattle.intake.specs.declared.Input.{Input}
 use Rattle.intake.specs.declared.Input.TheVariants.{Whole, Failed}
 use Rattle.desk.specs.Answers.{desk_answers, DeskAnswered}

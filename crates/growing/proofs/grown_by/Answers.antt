@@ -1,5 +1,5 @@
 -- `growing::grown_by` meets its contract.
-use Rattle.growing.specs.Laws.Growing.{grown_is}
+use Rattle.growing.proofs.Laws.Growing.{grown_is}
 use Rattle.growing.proofs.grown_by.Goals as goal
 
 pub returns : goal.returns

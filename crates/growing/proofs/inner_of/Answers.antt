@@ -3,7 +3,7 @@ use mathlib.Core.Bool.{not}
 use mathlib.Core.Path.{ap, ◌∙◌}
 use native.Mathlib.Omega.{arith}
 use borrow.Author.Rules.{rules}
-use Rattle.growing.specs.Laws.Growing.{inner_none, inner_counts, inner_stays}
+use Rattle.growing.proofs.Laws.Growing.{inner_none, inner_counts, inner_stays}
 use Rattle.growing.proofs.inner_of.Goals as goal
 use Rattle.growing.proofs.inner_of.Goals.{then-not-listing-w, else-not-listing-w}
 

@@ -1,8 +1,8 @@
 -- `judge::judge` meets its contract: 11, 12, then what is found.
 use mathlib.Core.Path.{sym, ◌∙◌}
 use borrow.Author.Tests.{not-true, not-false}
-use Rattle.asking.specs.Laws.Checks.{order_high}
-use Rattle.judge.specs.Laws.Answers.{not_records, not_order, judged_answer}
+use Rattle.asking.proofs.Laws.Checks.{order_high}
+use Rattle.judge.proofs.Laws.Answers.{not_records, not_order, judged_answer}
 use Rattle.judge.proofs.judge.Goals as goal
 
 pub returns-then-not-records_fit : goal.returns-then-not-records_fit

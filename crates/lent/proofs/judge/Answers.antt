@@ -1,6 +1,6 @@
 -- `lent::judge` answers of the list what it answers of the listing.
 use Rattle.document.specs.Judgements.{judgement_of}
-use Rattle.lent.specs.Laws.Same.{judge_same}
+use Rattle.lent.proofs.Laws.Same.{judge_same}
 use Rattle.lent.proofs.judge.Goals as goal
 
 pub returns : goal.returns

@@ -1,5 +1,5 @@
 -- `lent::needs` answers of the list what it answers of the listing.
-use Rattle.lent.specs.Laws.Same.{needs_same}
+use Rattle.lent.proofs.Laws.Same.{needs_same}
 use Rattle.lent.proofs.needs.Goals as goal
 
 pub returns : goal.returns

@@ -1,5 +1,5 @@
 -- `lent::pads` answers of the list what it answers of the listing.
-use Rattle.lent.specs.Laws.Same.{pads_same}
+use Rattle.lent.proofs.Laws.Same.{pads_same}
 use Rattle.lent.proofs.pads.Goals as goal
 
 pub returns : goal.returns

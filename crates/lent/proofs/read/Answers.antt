@@ -1,5 +1,5 @@
 -- `lent::read` stores as many records as the read has: no more than the list.
-use Rattle.filling.specs.Laws.Stored.{fits_list, read_answers}
+use Rattle.filling.proofs.Laws.Stored.{fits_list, read_answers}
 use Rattle.lent.proofs.read.Goals as goal
 
 pub store-requires : goal.store-requires

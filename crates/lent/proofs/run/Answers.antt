@@ -1,5 +1,5 @@
 -- `lent::run` answers of the list what it answers of the listing, and leaves the same in the buffer.
-use Rattle.lent.specs.Laws.Same.{run_same}
+use Rattle.lent.proofs.Laws.Same.{run_same}
 use Rattle.lent.proofs.run.Goals as goal
 
 pub returns : goal.returns

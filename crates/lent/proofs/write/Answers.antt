@@ -1,5 +1,5 @@
 -- `lent::write` answers of the list what it answers of the listing, and leaves the same in the buffer.
-use Rattle.lent.specs.Laws.Same.{write_same}
+use Rattle.lent.proofs.Laws.Same.{write_same}
 use Rattle.lent.proofs.write.Goals as goal
 
 pub returns : goal.returns

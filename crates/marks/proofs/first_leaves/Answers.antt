@@ -7,7 +7,7 @@ use native.Mathlib.Omega.{arith}
 use Rattle.document.specs.Padding.{rands_from}
 use Rattle.data.specs.Basics.{mark}
 use Rattle.marks.specs.Passes.{wired}
-use Rattle.marks.specs.Laws.Passes.{leaves_turn, leaves_end, leaves_all}
+use Rattle.marks.proofs.Laws.Passes.{leaves_turn, leaves_end, leaves_all}
 use Rattle.marks.proofs.first_leaves.Goals as goal
 
 pub loop-u-preserved : goal.loop-u-preserved

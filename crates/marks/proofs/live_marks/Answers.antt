@@ -5,11 +5,11 @@ use mathlib.Core.Path.{ap, ◌∙◌}
 use Prim.Native.Nat.{◌-◌}
 use native.Mathlib.Omega.{arith}
 use borrow.Author.Tests.{not-true}
-use Rattle.data.specs.Laws.Tests.{and_false}
+use Rattle.data.proofs.Laws.Tests.{and_false}
 use Rattle.document.specs.Padding.{live_down}
 use Rattle.data.specs.Basics.{at}
 use Rattle.marks.specs.Passes.{wired}
-use Rattle.marks.specs.Laws.Passes.{live_on, live_off, live_end, live_all}
+use Rattle.marks.proofs.Laws.Passes.{live_on, live_off, live_end, live_all}
 use Rattle.marks.proofs.live_marks.Goals as goal
 use Rattle.marks.proofs.live_marks.Goals.{else-m-u-via-then-m-u+else-not-leaf-u, else-m-u-via-else-m-u}
 

@@ -4,7 +4,7 @@ use native.Mathlib.Omega.{arith}
 use borrow.Author.Rules.{rules}
 use lib.ListN.{length}
 use Rattle.document.specs.Padding.{probed}
-use Rattle.marks.specs.Laws.Passes.{probed_turn, probed_end}
+use Rattle.marks.proofs.Laws.Passes.{probed_turn, probed_end}
 use Rattle.marks.proofs.probe_marks.Goals as goal
 
 pub loop-i-preserved : goal.loop-i-preserved

@@ -2,8 +2,8 @@
 use mathlib.Core.Path.{sym, ◌∙◌}
 use native.Mathlib.Omega.{arith}
 use borrow.Author.Tests.{not-true}
-use Rattle.opening.specs.Laws.Leaf.{holding, low_probes, own_open, cones_open, run_open}
-use Rattle.rule.specs.Laws.Calls.{wired_of, shares_of}
+use Rattle.opening.proofs.Laws.Leaf.{holding, low_probes, own_open, cones_open, run_open}
+use Rattle.rule.proofs.Laws.Calls.{wired_of, shares_of}
 use Rattle.opening.proofs.set_open.Goals as goal
 
 pub returns-then-g-ne0 : goal.returns-then-g-ne0

@@ -2,7 +2,7 @@
 use mathlib.Core.Path.{sym, ap}
 use borrow.Author.Rules.{rules}
 use lib.ListN.{length}
-use Rattle.pieces.specs.Laws.Numbers.{one_digit_lem, two_digits, three_digits_lem}
+use Rattle.pieces.proofs.Laws.Numbers.{one_digit_lem, two_digits, three_digits_lem}
 use Rattle.pieces.proofs.digit_count.Goals as goal
 
 pub returns-then-n-ge100 : goal.returns-then-n-ge100

@@ -7,7 +7,7 @@ use Rattle.data.specs.declared.Word.TheVariants as W
 use Rattle.data.specs.declared.Kind.{Kind}
 use Rattle.document.specs.Lines.{spelled}
 use Rattle.pieces.specs.Pieces.{of_kind}
-use Rattle.pieces.specs.Laws.Lengths.{line1_long, line2_long, line3_long}
+use Rattle.pieces.proofs.Laws.Lengths.{line1_long, line2_long, line3_long}
 use Rattle.pieces.proofs.kind_length.Goals as goal
 
 pub returns-in-Share : goal.returns-in-Share

@@ -7,7 +7,7 @@ use lib.ListN.{length}
 use Rattle.data.specs.declared.Word.TheVariants as W
 use Rattle.document.specs.Lines.{spelled}
 use Rattle.pieces.specs.Pieces.{of_mark}
-use Rattle.pieces.specs.Laws.Lengths.{line1_long}
+use Rattle.pieces.proofs.Laws.Lengths.{line1_long}
 use Rattle.pieces.proofs.mark_length.Goals as goal
 
 pub returns-then-out : goal.returns-then-out

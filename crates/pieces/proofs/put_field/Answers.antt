@@ -1,5 +1,5 @@
 -- `pieces::put_field` meets its contract: a tab, then a number.
-use Rattle.buffer.specs.Laws.Puts.{put_then}
+use Rattle.buffer.proofs.Laws.Puts.{put_then}
 use Rattle.pieces.proofs.put_field.Goals as goal
 
 pub returns : goal.returns

@@ -1,5 +1,5 @@
 -- `pieces::put_line1` meets its contract, field by field.
-use Rattle.buffer.specs.Laws.Puts.{put_then}
+use Rattle.buffer.proofs.Laws.Puts.{put_then}
 use Rattle.pieces.proofs.put_line1.Goals as goal
 
 pub returns : goal.returns

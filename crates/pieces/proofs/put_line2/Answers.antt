@@ -1,5 +1,5 @@
 -- `pieces::put_line2` meets its contract, field by field.
-use Rattle.buffer.specs.Laws.Puts.{put_then}
+use Rattle.buffer.proofs.Laws.Puts.{put_then}
 use Rattle.pieces.proofs.put_line2.Goals as goal
 
 pub returns : goal.returns

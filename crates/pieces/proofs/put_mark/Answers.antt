@@ -6,8 +6,8 @@ use lib.ListN.{length}
 use Rattle.data.specs.declared.Word.TheVariants as W
 use Rattle.document.specs.Lines.{spelled}
 use Rattle.pieces.specs.Pieces.{of_mark}
-use Rattle.pieces.specs.Laws.Lengths.{line1_long}
-use Rattle.buffer.specs.Laws.Puts.{put_none, put_same}
+use Rattle.pieces.proofs.Laws.Lengths.{line1_long}
+use Rattle.buffer.proofs.Laws.Puts.{put_none, put_same}
 use Rattle.pieces.proofs.put_mark.Goals as goal
 
 pub put_line1-requires : goal.put_line1-requires

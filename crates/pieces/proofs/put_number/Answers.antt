@@ -2,8 +2,8 @@
 use mathlib.Core.Path.{sym, ap}
 use native.Mathlib.Omega.{arith}
 use lib.ListN.{length}
-use Rattle.buffer.specs.Laws.Puts.{put_long, put_then, put_same}
-use Rattle.pieces.specs.Laws.Numbers.{one_digit_lem, two_digits, three_digits_lem}
+use Rattle.buffer.proofs.Laws.Puts.{put_long, put_then, put_same}
+use Rattle.pieces.proofs.Laws.Numbers.{one_digit_lem, two_digits, three_digits_lem}
 use Rattle.pieces.proofs.put_number.Goals as goal
 
 pub put_byte-requires : goal.put_byte-requires

@@ -6,8 +6,8 @@ use native.Mathlib.Omega.{arith}
 use lib.ListN.{length, length-append}
 use Rattle.document.specs.Lines.{digit_zero}
 use Rattle.document.specs.Desk.{printed}
-use Rattle.printer.specs.Laws.Digits.{printed_one, printed_more}
-use Rattle.buffer.specs.Laws.Puts.{put_long, put_then, put_same}
+use Rattle.printer.proofs.Laws.Digits.{printed_one, printed_more}
+use Rattle.buffer.proofs.Laws.Puts.{put_long, put_then, put_same}
 use Rattle.printer.proofs.+put_printed.Goals as goal
 
 pub put_byte-requires : goal.put_byte-requires

@@ -5,9 +5,9 @@ use native.Mathlib.Omega.{arith}
 use borrow.Author.Rules.{rules}
 use lib.ListN.{length, length-take}
 use Rattle.data.specs.ProbeSets.{held}
-use Rattle.printer.specs.Laws.Lines.{answer_line_is}
-use Rattle.printer.specs.Laws.Rooms.{verdict_few}
-use Rattle.buffer.specs.Laws.Puts.{put_long, put_then, put_same}
+use Rattle.printer.proofs.Laws.Lines.{answer_line_is}
+use Rattle.printer.proofs.Laws.Rooms.{verdict_few}
+use Rattle.buffer.proofs.Laws.Puts.{put_long, put_then, put_same}
 use Rattle.printer.proofs.put_answer.Goals as goal
 
 pub put_byte-requires : goal.put_byte-requires

@@ -1,7 +1,7 @@
 -- `printer::put_counted` meets its contract, field by field.
 use native.Mathlib.Omega.{arith}
-use Rattle.printer.specs.Laws.Digits.{printed_few}
-use Rattle.buffer.specs.Laws.Puts.{put_long, put_then}
+use Rattle.printer.proofs.Laws.Digits.{printed_few}
+use Rattle.buffer.proofs.Laws.Puts.{put_long, put_then}
 use Rattle.printer.proofs.put_counted.Goals as goal
 
 pub put_word-j-requires : goal.put_word-j-requires

@@ -6,9 +6,9 @@ use native.Mathlib.Omega.{arith}
 use Rattle.document.specs.Lines.{lf}
 use Rattle.document.specs.Desk.{refused_word}
 use Rattle.printer.specs.Fields.{number_field}
-use Rattle.printer.specs.Laws.Lines.{refused_line_is}
-use Rattle.printer.specs.Laws.Digits.{printed_few}
-use Rattle.buffer.specs.Laws.Puts.{put_long, put_then, put_same}
+use Rattle.printer.proofs.Laws.Lines.{refused_line_is}
+use Rattle.printer.proofs.Laws.Digits.{printed_few}
+use Rattle.buffer.proofs.Laws.Puts.{put_long, put_then, put_same}
 use Rattle.printer.proofs.put_refused.Goals as goal
 
 pub put_spaced-end-requires : goal.put_spaced-end-requires

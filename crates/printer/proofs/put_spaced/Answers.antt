@@ -1,7 +1,7 @@
 -- `printer::put_spaced` meets its contract: a space, then at most 20 digits.
 use native.Mathlib.Omega.{arith}
-use Rattle.printer.specs.Laws.Digits.{printed_few}
-use Rattle.buffer.specs.Laws.Puts.{put_long, put_then}
+use Rattle.printer.proofs.Laws.Digits.{printed_few}
+use Rattle.buffer.proofs.Laws.Puts.{put_long, put_then}
 use Rattle.printer.proofs.put_spaced.Goals as goal
 
 pub put_printed-requires : goal.put_printed-requires

@@ -5,9 +5,9 @@ use Prim.Native.Nat.{ℕ}
 use native.Mathlib.Omega.{arith}
 use Rattle.document.specs.Desk.{space, open_word, refused_word}
 use Rattle.printer.specs.Fields.{number_field}
-use Rattle.printer.specs.Laws.Lines.{pass_fields_lem, open_fields, refused_fields}
-use Rattle.printer.specs.Laws.Rooms.{counted_ends}
-use Rattle.buffer.specs.Laws.Puts.{put_long, put_then, put_same}
+use Rattle.printer.proofs.Laws.Lines.{pass_fields_lem, open_fields, refused_fields}
+use Rattle.printer.proofs.Laws.Rooms.{counted_ends}
+use Rattle.buffer.proofs.Laws.Puts.{put_long, put_then, put_same}
 use Rattle.printer.proofs.put_verdict.Goals as goal
 
 pub put_wires-requires : goal.put_wires-requires

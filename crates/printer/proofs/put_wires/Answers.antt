@@ -3,9 +3,9 @@ use mathlib.Core.Path.{◌≡◌, refl, sym, ◌∙◌}
 use native.Mathlib.Omega.{arith}
 use borrow.Author.Rules.{rules}
 use lib.ListN.{length, take, length-take}
-use Rattle.printer.specs.Laws.Lines.{wires_none, wires_more}
-use Rattle.printer.specs.Laws.Rooms.{wires_few}
-use Rattle.buffer.specs.Laws.Puts.{put_none, put_long, put_then, put_same}
+use Rattle.printer.proofs.Laws.Lines.{wires_none, wires_more}
+use Rattle.printer.proofs.Laws.Rooms.{wires_few}
+use Rattle.buffer.proofs.Laws.Puts.{put_none, put_long, put_then, put_same}
 use Rattle.printer.proofs.put_wires.Goals as goal
 
 pub loop-i-init : goal.loop-i-init

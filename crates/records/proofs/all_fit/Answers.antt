@@ -6,7 +6,7 @@ use native.Mathlib.Omega.{arith}
 use borrow.Author.Rules.{rules}
 use Rattle.data.specs.Basics.{all}
 use Rattle.counts.specs.Counting.{record_at}
-use Rattle.records.specs.Laws.Parts.{all_none, all_more}
+use Rattle.records.proofs.Laws.Parts.{all_none, all_more}
 use Rattle.records.specs.Records.{fits_at}
 use Rattle.records.proofs.all_fit.Goals as goal
 

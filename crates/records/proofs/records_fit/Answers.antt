@@ -4,7 +4,7 @@ use native.Mathlib.Omega.{arith}
 use borrow.Author.Tests.{not-true, not-false}
 use Rattle.data.proofs.Listings.{listing_long}
 use Rattle.counts.specs.Counting.{ceilings_met}
-use Rattle.records.specs.Laws.Parts.{in_range_lem, too_long, range_fails, shares_fail, ceilings_fail, rest_fits}
+use Rattle.records.proofs.Laws.Parts.{in_range_lem, too_long, range_fails, shares_fail, ceilings_fail, rest_fits}
 use Rattle.records.proofs.records_fit.Goals as goal
 
 pub returns-then-n-gt128 : goal.returns-then-n-gt128

@@ -1,6 +1,6 @@
 -- `report::put_read` meets its contract; each return is one outcome of the read.
-use Rattle.report.specs.Laws.Lines.{done_lines, refused_lines}
-use Rattle.buffer.specs.Laws.Puts.{put_same}
+use Rattle.report.proofs.Laws.Lines.{done_lines, refused_lines}
+use Rattle.buffer.proofs.Laws.Puts.{put_same}
 use Rattle.report.proofs.put_read.Goals as goal
 
 pub returns-in-Done : goal.returns-in-Done

@@ -1,7 +1,7 @@
 -- `report::report` meets its contract: what is put of the read is what is printed of the text (8.6, 8.8).
 use borrow.Author.Rules.{rules}
-use Rattle.report.specs.Laws.Reports.{reported}
-use Rattle.report.specs.Laws.Lines.{read_fits}
+use Rattle.report.proofs.Laws.Reports.{reported}
+use Rattle.report.proofs.Laws.Lines.{read_fits}
 use Rattle.report.proofs.report.Goals as goal
 
 pub put_read-requires : goal.put_read-requires

@@ -4,7 +4,7 @@ use Prim.Native.Nat.{◌*◌}
 use Rattle.document.specs.Padding.{word, live}
 use Rattle.data.specs.Basics.{at}
 use Rattle.marks.specs.Passes.{wired}
-use Rattle.rule.specs.Laws.Run.{needed_same}
+use Rattle.rule.proofs.Laws.Run.{needed_same}
 use Rattle.rule.specs.declared.Run.{Run}
 use Rattle.rule.proofs.needed_word.Goals as goal
 

@@ -2,9 +2,9 @@
 use mathlib.Core.Path.{◌≡◌}
 use borrow.Author.Rules.{rules}
 use lib.ListN.{length}
-use Rattle.asking.specs.Laws.Checks.{order_high}
-use Rattle.rule.specs.Laws.Calls.{probes_low, wired_of, shares_of}
-use Rattle.rule.specs.Laws.Answers.{observed_is}
+use Rattle.asking.proofs.Laws.Checks.{order_high}
+use Rattle.rule.proofs.Laws.Calls.{probes_low, wired_of, shares_of}
+use Rattle.rule.proofs.Laws.Answers.{observed_is}
 use Rattle.rule.proofs.observe.Goals as goal
 
 pub probe_marks-probe-requires : goal.probe_marks-probe-requires

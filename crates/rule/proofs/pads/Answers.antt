@@ -1,7 +1,7 @@
 -- `rule::pads` meets its contract: a refusal, or what the set comes to.
 use mathlib.Core.Path.{sym, ◌∙◌}
-use Rattle.asking.specs.Laws.Checks.{passed_of}
-use Rattle.rule.specs.Laws.Answers.{padding_not, padding_done}
+use Rattle.asking.proofs.Laws.Checks.{passed_of}
+use Rattle.rule.proofs.Laws.Answers.{padding_not, padding_done}
 use Rattle.rule.proofs.pads.Goals as goal
 
 pub observe-seen-requires : goal.observe-seen-requires

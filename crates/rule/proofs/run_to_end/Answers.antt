@@ -8,7 +8,7 @@ use Rattle.document.specs.Padding.{next_step}
 use Rattle.step.specs.Next.{step_in}
 use Rattle.marks.specs.Passes.{wired}
 use Rattle.rule.specs.Run.{gone_on}
-use Rattle.rule.specs.Laws.Run.{run_full, run_ended, run_more, next_below, run_all}
+use Rattle.rule.proofs.Laws.Run.{run_full, run_ended, run_more, next_below, run_all}
 use Rattle.rule.specs.declared.Run.{Run}
 use Rattle.rule.proofs.run_to_end.Goals as goal
 

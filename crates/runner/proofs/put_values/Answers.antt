@@ -5,10 +5,10 @@ use Prim.Native.Nat.{◌<◌}
 use native.Mathlib.Omega.{arith}
 use borrow.Author.Rules.{rules}
 use lib.ListN.{length, length-set}
-use Rattle.counts.specs.Laws.Counts.{counts_none, counts_more, counts_room}
+use Rattle.counts.proofs.Laws.Counts.{counts_none, counts_more, counts_room}
 use Rattle.counts.specs.Counting.{record_at, with_record}
 use Rattle.counts.specs.declared.Counts.{Counts}
-use Rattle.runner.specs.Laws.Values.{values_none, values_turn}
+use Rattle.runner.proofs.Laws.Values.{values_none, values_turn}
 use Rattle.runner.proofs.put_values.Goals as goal
 
 pub loop-w-init : goal.loop-w-init

@@ -2,8 +2,8 @@
 use mathlib.Core.Path.{sym, ◌∙◌}
 use native.Mathlib.Omega.{arith}
 use borrow.Author.Tests.{not-true, not-false}
-use Rattle.records.specs.Laws.Fitting.{fit_of}
-use Rattle.runner.specs.Laws.Runs.{run_not_records, run_not_bits, run_not_buffer, run_done}
+use Rattle.records.proofs.Laws.Fitting.{fit_of}
+use Rattle.runner.proofs.Laws.Runs.{run_not_records, run_not_bits, run_not_buffer, run_done}
 use Rattle.runner.proofs.run.Goals as goal
 
 pub returns-then-not-records_fit : goal.returns-then-not-records_fit

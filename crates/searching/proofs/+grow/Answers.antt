@@ -5,8 +5,8 @@ use native.Mathlib.Nat.{pos_of_ne-zero}
 use native.Mathlib.Omega.{arith}
 use Rattle.data.specs.ProbeSets.{held}
 use Rattle.growing.specs.Growing.{opens_in}
-use Rattle.searching.specs.Laws.Skipping.{reached, turn_end, turn_more, turn_hit, turn_rest, turn_miss}
-use Rattle.searching.specs.Laws.Turns.{falls_both, falls_wires, grow_leaf, few_wires, leaf_asked, leaf_counted}
+use Rattle.searching.proofs.Laws.Skipping.{reached, turn_end, turn_more, turn_hit, turn_rest, turn_miss}
+use Rattle.searching.proofs.Laws.Turns.{falls_both, falls_wires, grow_leaf, few_wires, leaf_asked, leaf_counted}
 use Rattle.searching.proofs.+grow.Goals as goal
 
 pub judge_set-requires : goal.judge_set-requires

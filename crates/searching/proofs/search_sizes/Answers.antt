@@ -3,7 +3,7 @@ use mathlib.Core.Path.{ap, ◌∙◌}
 use Prim.Native.Nat.{◌+◌}
 use native.Mathlib.Omega.{arith}
 use borrow.Author.Rules.{rules}
-use Rattle.searching.specs.Laws.Sizes.{found_none, found_stays, size_asked, size_found}
+use Rattle.searching.proofs.Laws.Sizes.{found_none, found_stays, size_asked, size_found}
 use Rattle.growing.specs.declared.Found.{Found}
 use Rattle.searching.proofs.search_sizes.Goals as goal
 

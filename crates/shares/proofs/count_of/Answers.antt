@@ -4,7 +4,7 @@ use Prim.Native.Nat.{ℕ, ◌*◌}
 use native.Mathlib.Omega.{arith}
 use lib.Count.{ones}
 use lib.Bits.{bit_and}
-use Rattle.shares.specs.Laws.Words.{mask_word, ones_masked}
+use Rattle.shares.proofs.Laws.Words.{mask_word, ones_masked}
 use Rattle.shares.proofs.count_of.Goals as goal
 
 pub returns : goal.returns

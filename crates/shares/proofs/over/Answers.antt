@@ -5,7 +5,7 @@ use Prim.Native.Nat.{ℕ}
 use native.Mathlib.Omega.{arith}
 use borrow.Author.Rules.{rules}
 use lib.Dec.{ltb}
-use Rattle.shares.specs.Laws.Words.{over_none, over_more}
+use Rattle.shares.proofs.Laws.Words.{over_none, over_more}
 use Rattle.shares.proofs.over.Goals as goal
 
 pub loop-i-init : goal.loop-i-init

@@ -4,7 +4,7 @@ use Prim.Native.Nat.{◌+◌, ◌<◌, ◌^◌}
 use native.Mathlib.Omega.{arith}
 use borrow.Author.Rules.{rules}
 use Rattle.data.specs.Basics.{at}
-use Rattle.shares.specs.Laws.Words.{word_none, word_more, word_fits}
+use Rattle.shares.proofs.Laws.Words.{word_none, word_more, word_fits}
 use Rattle.shares.proofs.share_word.Goals as goal
 
 pub loop-k-init : goal.loop-k-init

@@ -2,7 +2,7 @@
 use mathlib.Core.Path.{sym, ap, ◌∙◌}
 use native.Mathlib.Omega.{arith}
 use Rattle.step.specs.Next.{step_in}
-use Rattle.step.specs.Laws.Next.{pad_at_is, lowest_found, lowest_on, lowest_end}
+use Rattle.step.proofs.Laws.Next.{pad_at_is, lowest_found, lowest_on, lowest_end}
 use Rattle.step.proofs.lowest_pad.Goals as goal
 
 pub returns-in-Pad : goal.returns-in-Pad

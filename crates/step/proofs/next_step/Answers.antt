@@ -3,7 +3,7 @@ use mathlib.Core.Bool.{Bool}
 use mathlib.Core.List.{List}
 use mathlib.Core.Path.{ap, ◌∙◌}
 use Rattle.document.specs.Padding.{lowest_pad, pads_by}
-use Rattle.step.specs.Laws.Next.{next_is}
+use Rattle.step.proofs.Laws.Next.{next_is}
 use Rattle.marks.specs.Passes.{wired}
 use Rattle.step.proofs.next_step.Goals as goal
 

@@ -1,7 +1,7 @@
 -- `step::pad_by_one` meets its contract: either branch of the definition.
 use mathlib.Core.Path.{sym, ◌∙◌}
 use Rattle.step.specs.Next.{serves_by}
-use Rattle.step.specs.Laws.Next.{pad_one, pad_none}
+use Rattle.step.proofs.Laws.Next.{pad_one, pad_none}
 use Rattle.step.proofs.pad_by_one.Goals as goal
 
 pub returns-then-can_serve : goal.returns-then-can_serve

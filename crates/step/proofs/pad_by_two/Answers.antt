@@ -1,7 +1,7 @@
 -- `step::pad_by_two` meets its contract. Each return is one branch of the definition.
 use mathlib.Core.Path.{sym, ◌∙◌}
 use Rattle.step.specs.Next.{serves_by}
-use Rattle.step.specs.Laws.Next.{pad_same, pad_low, pad_high}
+use Rattle.step.proofs.Laws.Next.{pad_same, pad_low, pad_high}
 use Rattle.step.proofs.pad_by_two.Goals as goal
 
 pub returns-then-a-b : goal.returns-then-a-b

@@ -1,5 +1,5 @@
 -- `values::bit_at` meets its contract: a shift and a mask give the bit, and no word has one from 64 on.
-use Rattle.values.specs.Laws.Bits.{bit_is, bit_none}
+use Rattle.values.proofs.Laws.Bits.{bit_is, bit_none}
 use Rattle.values.proofs.bit_at.Goals as goal
 
 pub returns-then-k-lt64 : goal.returns-then-k-lt64

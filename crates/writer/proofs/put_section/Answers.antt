@@ -2,8 +2,8 @@
 use mathlib.Core.Path.{refl, sym, ◌∙◌}
 use native.Mathlib.Omega.{arith}
 use borrow.Author.Rules.{rules}
-use Rattle.buffer.specs.Laws.Puts.{put_none, put_same, put_then, put_long}
-use Rattle.writer.specs.Laws.Sections.{section_none, section_more, section_within}
+use Rattle.buffer.proofs.Laws.Puts.{put_none, put_same, put_then, put_long}
+use Rattle.writer.proofs.Laws.Sections.{section_none, section_more, section_within}
 use Rattle.writer.proofs.put_section.Goals as goal
 
 pub loop-i-init : goal.loop-i-init

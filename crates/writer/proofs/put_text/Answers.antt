@@ -2,10 +2,10 @@
 use native.Mathlib.Omega.{arith}
 use Rattle.data.specs.declared.Word.TheVariants as W
 use Rattle.document.specs.Lines.{spelled}
-use Rattle.buffer.specs.Laws.Puts.{put_then, put_long}
-use Rattle.pieces.specs.Laws.Lengths.{line2_long}
+use Rattle.buffer.proofs.Laws.Puts.{put_then, put_long}
+use Rattle.pieces.proofs.Laws.Lengths.{line2_long}
 use Rattle.writer.specs.Parts.{text_parts}
-use Rattle.writer.specs.Laws.Sections.{text_long}
+use Rattle.writer.proofs.Laws.Sections.{text_long}
 use Rattle.writer.proofs.put_text.Goals as goal
 
 pub put_line2-wires-requires : goal.put_line2-wires-requires

@@ -3,7 +3,7 @@ use mathlib.Core.Path.{sym, ap}
 use native.Mathlib.Omega.{arith}
 use borrow.Author.Rules.{rules}
 use lib.ListN.{length}
-use Rattle.writer.specs.Laws.Sections.{section_none, section_longer}
+use Rattle.writer.proofs.Laws.Sections.{section_none, section_longer}
 use Rattle.writer.proofs.section_length.Goals as goal
 
 pub loop-i-init : goal.loop-i-init

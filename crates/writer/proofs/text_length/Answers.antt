@@ -1,6 +1,6 @@
 -- `writer::text_length` meets its contract: the lengths of the three parts.
 use native.Mathlib.Omega.{arith}
-use Rattle.writer.specs.Laws.Sections.{text_long}
+use Rattle.writer.proofs.Laws.Sections.{text_long}
 use Rattle.writer.proofs.text_length.Goals as goal
 
 pub returns : goal.returns

@@ -1,8 +1,8 @@
 -- `writer::write` meets its contract; each return is the answer to one test.
 use mathlib.Core.Path.{sym, ◌∙◌}
 use native.Mathlib.Omega.{arith}
-use Rattle.records.specs.Laws.Fitting.{fit_of}
-use Rattle.writer.specs.Laws.Writes.{write_not_records, write_not_buffer, write_done}
+use Rattle.records.proofs.Laws.Fitting.{fit_of}
+use Rattle.writer.proofs.Laws.Writes.{write_not_records, write_not_buffer, write_done}
 use Rattle.writer.proofs.write.Goals as goal
 
 pub returns-then-not-records_fit : goal.returns-then-not-records_fit

@@ -7,7 +7,7 @@ use native.Mathlib.Omega.{arith}
 use borrow.Author.Tests.{not-true, not-false}
 use borrow.Author.Rules.{rules}
 use lib.ListN.{length}
-use Rattle.data.specs.Laws.Placing.{rank_fits, may_add_room, may_add_low, added, not_added}
+use Rattle.data.proofs.Laws.Placing.{rank_fits, may_add_room, may_add_low, added, not_added}
 use Rattle.data.specs.Placing.{places_with}
 use Rattle.data.specs.ProbeSets.{may_add}
 use Rattle.data.specs.declared.Added.{Added}

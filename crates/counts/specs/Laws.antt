@@ -1,2 +1,0 @@
--- The counts record by record, and those of a routine.
-pub mod Counts

@@ -1,3 +1,0 @@
--- None of the impostors meets a contract; the answers that show it are worked in Laws/.
-pub mod Impostors
-pub mod Laws

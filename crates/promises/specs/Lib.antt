@@ -1,2 +1,0 @@
--- The page of promises.
-pub mod Promises
