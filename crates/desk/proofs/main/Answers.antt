@@ -1,6 +1,5 @@
 -- The program keeps within its two buffers.
-use Rattle.intake.specs.Laws.Inputs.{ended_within}
-use Rattle.buffer.specs.Laws.Beginning.{begins_within}
+use Rattle.intake.proofs.Laws.Inputs.{ended_within}
 use Rattle.desk.proofs.main.Goals as goal
 
 pub answer-len-requires : goal.answer-len-requires
