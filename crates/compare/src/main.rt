@@ -7,6 +7,8 @@ use compare_judging::{judged, sets};
 use compare_making::{chance, inverting, making, spoiling};
 use compare_texts::spelling;
 use data::Listing;
+use std::io;
+use std::io::{BufWriter, Write};
 
 const SEED: u64 = 20261115;
 
@@ -16,144 +18,181 @@ const LARGE: u64 = 160;
 
 // ---- printing
 
-fn say(word: &[u8]) {
-    io::write_all(1, word);
+fn say(out: &mut impl Write, word: &[u8]) -> io::Result<()> {
+    out.write_all(word)
 }
 
-fn say_number(n: u64) {
-    say(b" ");
-    io::print_decimal(1, n);
+fn say_number(out: &mut impl Write, n: u64) -> io::Result<()> {
+    write!(out, " {n}")
 }
 
-fn say_kind(t: [u64; 104], word: &[u8], kind: usize) {
-    say(word);
-    say(b": compared");
-    say_number(tally::at(t, kind));
-    say(b", differ");
-    say_number(tally::at(t, std::num::wrapping_add_usize(kind, tally::DIFFER)));
-    say(b"\n");
+fn say_kind(out: &mut impl Write, t: [u64; 104], word: &[u8], kind: usize) -> io::Result<()> {
+    say(out, word)?;
+    say(out, b": compared")?;
+    say_number(out, tally::at(t, kind))?;
+    say(out, b", differ")?;
+    say_number(out, tally::at(t, kind.wrapping_add(tally::DIFFER)))?;
+    say(out, b"\n")
 }
 
-fn say_count(t: [u64; 104], word: &[u8], at: usize) {
-    say(word);
-    say_number(tally::at(t, at));
-    say(b"\n");
+fn say_count(out: &mut impl Write, t: [u64; 104], word: &[u8], at: usize) -> io::Result<()> {
+    say(out, word)?;
+    say_number(out, tally::at(t, at))?;
+    say(out, b"\n")
 }
 
 // How often each refusal was given, from 1 to 15.
-fn say_refusals(t: [u64; 104]) {
-    say(b"refusals 1 to 15:");
+fn say_refusals(out: &mut impl Write, t: [u64; 104]) -> io::Result<()> {
+    say(out, b"refusals 1 to 15:")?;
     let mut k = 1;
     while k < 16 {
-        say_number(tally::at(t, std::num::wrapping_add_usize(tally::REFUSED, k)));
+        say_number(out, tally::at(t, tally::REFUSED.wrapping_add(k)))?;
         k += 1;
     }
-    say(b"\n");
+    say(out, b"\n")
 }
 
-fn say_routines() {
-    say(b"routines judged at every order:");
-    say_number(ROUTINES);
-    say(b"\nroutines up to the ceilings:");
-    say_number(LARGE);
-    say(b"\nroutines about one ceiling:");
-    say_number(LARGE);
-    say(b"\n");
+fn say_routines(out: &mut impl Write) -> io::Result<()> {
+    say(out, b"routines judged at every order:")?;
+    say_number(out, ROUTINES)?;
+    say(out, b"\nroutines up to the ceilings:")?;
+    say_number(out, LARGE)?;
+    say(out, b"\nroutines about one ceiling:")?;
+    say_number(out, LARGE)?;
+    say(out, b"\n")
 }
 
-fn say_texts(t: [u64; 104]) {
-    say_kind(t, b"texts read", tally::TEXTS);
-    say_kind(t, b"damaged texts read", tally::DAMAGED);
-    say_kind(t, b"routines written", tally::WRITINGS);
-    say_kind(t, b"routines run", tally::RUNS);
-    say_kind(t, b"lists of records tested", tally::RECORDS);
+fn say_texts(out: &mut impl Write, t: [u64; 104]) -> io::Result<()> {
+    say_kind(out, t, b"texts read", tally::TEXTS)?;
+    say_kind(out, t, b"damaged texts read", tally::DAMAGED)?;
+    say_kind(out, t, b"routines written", tally::WRITINGS)?;
+    say_kind(out, t, b"routines run", tally::RUNS)?;
+    say_kind(out, t, b"lists of records tested", tally::RECORDS)
 }
 
-fn say_sets(t: [u64; 104]) {
-    say_kind(t, b"additions to a set", tally::ADDITIONS);
-    say_kind(t, b"sets, needed shares", tally::NEEDED);
-    say_kind(t, b"sets, steps", tally::STEPS);
-    say_kind(t, b"plain judgements", tally::PLAIN);
-    say_kind(t, b"strong judgements", tally::STRONG);
+fn say_sets(out: &mut impl Write, t: [u64; 104]) -> io::Result<()> {
+    say_kind(out, t, b"additions to a set", tally::ADDITIONS)?;
+    say_kind(out, t, b"sets, needed shares", tally::NEEDED)?;
+    say_kind(out, t, b"sets, steps", tally::STEPS)?;
+    say_kind(out, t, b"plain judgements", tally::PLAIN)?;
+    say_kind(out, t, b"strong judgements", tally::STRONG)
 }
 
-fn say_list_texts(t: [u64; 104]) {
-    say_kind(t, b"texts read into a lent list", tally::LENT_READS);
-    say_kind(t, b"texts read into too short a list", tally::LENT_SHORT);
-    say_kind(t, b"routines written from a list", tally::LENT_WRITINGS);
-    say_kind(t, b"routines run from a list", tally::LENT_RUNS);
-}
-
-fn say_list_sets(t: [u64; 104]) {
-    say_kind(t, b"sets of a list, needed shares", tally::LENT_NEEDED);
-    say_kind(t, b"sets of a list, steps", tally::LENT_STEPS);
-    say_kind(t, b"plain judgements of a list", tally::LENT_PLAIN);
-    say_kind(t, b"strong judgements of a list", tally::LENT_STRONG);
-}
-
-fn say_orders(t: [u64; 104]) {
-    say_kind(t, b"sets of a plain pass, starts counted", tally::EVEN);
-    say_kind(t, b"sets of a strong pass, drawings counted", tally::DRAWN);
-    say_kind(t, b"sets, drawings counted", tally::NEEDED_DRAWN);
+fn say_list_texts(out: &mut impl Write, t: [u64; 104]) -> io::Result<()> {
+    say_kind(out, t, b"texts read into a lent list", tally::LENT_READS)?;
     say_kind(
+        out,
+        t,
+        b"texts read into too short a list",
+        tally::LENT_SHORT,
+    )?;
+    say_kind(
+        out,
+        t,
+        b"routines written from a list",
+        tally::LENT_WRITINGS,
+    )?;
+    say_kind(out, t, b"routines run from a list", tally::LENT_RUNS)
+}
+
+fn say_list_sets(out: &mut impl Write, t: [u64; 104]) -> io::Result<()> {
+    say_kind(out, t, b"sets of a list, needed shares", tally::LENT_NEEDED)?;
+    say_kind(out, t, b"sets of a list, steps", tally::LENT_STEPS)?;
+    say_kind(out, t, b"plain judgements of a list", tally::LENT_PLAIN)?;
+    say_kind(out, t, b"strong judgements of a list", tally::LENT_STRONG)
+}
+
+fn say_orders(out: &mut impl Write, t: [u64; 104]) -> io::Result<()> {
+    say_kind(out, t, b"sets of a plain pass, starts counted", tally::EVEN)?;
+    say_kind(
+        out,
+        t,
+        b"sets of a strong pass, drawings counted",
+        tally::DRAWN,
+    )?;
+    say_kind(out, t, b"sets, drawings counted", tally::NEEDED_DRAWN)?;
+    say_kind(
+        out,
         t,
         b"sets of a plain pass by inverted randoms, starts counted",
         tally::EVEN_INVERTED,
-    );
+    )?;
     say_kind(
+        out,
         t,
         b"sets of a strong pass by inverted randoms, drawings counted",
         tally::DRAWN_INVERTED,
-    );
+    )?;
     say_kind(
+        out,
         t,
         b"judgements also made with no not padded",
         tally::NOTS_KEPT,
-    );
-    say_kind(t, b"orders above a plain judgement", tally::LOWER);
-    say_kind(t, b"orders above a strong judgement", tally::LOWER_STRONG);
+    )?;
+    say_kind(out, t, b"orders above a plain judgement", tally::LOWER)?;
     say_kind(
+        out,
+        t,
+        b"orders above a strong judgement",
+        tally::LOWER_STRONG,
+    )?;
+    say_kind(
+        out,
         t,
         b"orders of a strong judgement, plain",
         tally::STRONG_PLAIN,
-    );
+    )
 }
 
-fn say_answers(t: [u64; 104]) {
-    say_count(t, b"plain judgements that pass:", tally::PLAIN_PASS);
-    say_count(t, b"plain judgements that are open:", tally::PLAIN_OPEN);
-    say_count(t, b"strong judgements that pass:", tally::STRONG_PASS);
-    say_count(t, b"strong judgements that are open:", tally::STRONG_OPEN);
+fn say_answers(out: &mut impl Write, t: [u64; 104]) -> io::Result<()> {
+    say_count(out, t, b"plain judgements that pass:", tally::PLAIN_PASS)?;
     say_count(
+        out,
+        t,
+        b"plain judgements that are open:",
+        tally::PLAIN_OPEN,
+    )?;
+    say_count(out, t, b"strong judgements that pass:", tally::STRONG_PASS)?;
+    say_count(
+        out,
+        t,
+        b"strong judgements that are open:",
+        tally::STRONG_OPEN,
+    )?;
+    say_count(
+        out,
         t,
         b"judgements that pass by inverted randoms:",
         tally::PASS_INVERTED,
-    );
-    say_count(t, b"sets that are not open:", tally::SETS_CLOSED);
-    say_count(t, b"sets that are open:", tally::SETS_OPEN);
-    say_count(t, b"steps made:", tally::STEPS_MADE);
+    )?;
+    say_count(out, t, b"sets that are not open:", tally::SETS_CLOSED)?;
+    say_count(out, t, b"sets that are open:", tally::SETS_OPEN)?;
+    say_count(out, t, b"steps made:", tally::STEPS_MADE)
 }
 
-fn say_all(t: [u64; 104]) {
-    say_routines();
-    say_texts(t);
-    say_sets(t);
-    say_list_texts(t);
-    say_list_sets(t);
-    say_orders(t);
-    say_answers(t);
-    say_refusals(t);
+fn say_all(out: &mut impl Write, t: [u64; 104]) -> io::Result<()> {
+    say_routines(out)?;
+    say_texts(out, t)?;
+    say_sets(out, t)?;
+    say_list_texts(out, t)?;
+    say_list_sets(out, t)?;
+    say_orders(out, t)?;
+    say_answers(out, t)?;
+    say_refusals(out, t)
 }
 
 // The routine's text, if the answers differ in more than before it.
-fn show(t: [u64; 104], u: [u64; 104], g: Listing) {
+fn show(out: &mut impl Write, t: [u64; 104], u: [u64; 104], g: Listing) -> io::Result<()> {
     if tally::differences(t) == tally::differences(u) {
-        return;
+        return Ok(());
     }
     let mut text = [32u8; 4096];
     spelling::text(g, &mut text);
-    say(b"answers differ at this routine, or at what was made of it:\n");
-    say(&text);
+    say(
+        out,
+        b"answers differ at this routine, or at what was made of it:\n",
+    )?;
+    say(out, &text)
 }
 
 // ---- the routines
@@ -179,57 +218,60 @@ fn compare_spoiled(t: [u64; 104], g: Listing, seed: u64) -> [u64; 104] {
     sets::compare_sets(t4, h, seed, 1)
 }
 
-fn compare_small(t: [u64; 104], seed: u64) -> [u64; 104] {
+fn compare_small(out: &mut impl Write, t: [u64; 104], seed: u64) -> io::Result<[u64; 104]> {
     let g = inverting::routine(chance::draw(seed, 8));
     let u = compare_calls(t, g, seed, 10);
     let v = judged::compare_orders(u, g, seed);
     let w = sets::compare_draws(v, g, chance::draw(seed, 11), 20);
-    show(t, w, g);
-    w
+    show(out, t, w, g)?;
+    Ok(w)
 }
 
-fn compare_all_small(t: [u64; 104]) -> [u64; 104] {
+fn compare_all_small(out: &mut impl Write, t: [u64; 104]) -> io::Result<[u64; 104]> {
     let mut u = t;
     let mut k: u64 = 0;
     while k < ROUTINES {
-        let next = compare_small(u, chance::draw(SEED, k));
+        let next = compare_small(out, u, chance::draw(SEED, k))?;
         u = next;
         k += 1;
     }
-    u
+    Ok(u)
 }
 
 // Routines up to the ceilings are judged at order 1 only; order 5 is refused also where D is above it.
-fn compare_large(t: [u64; 104], seed: u64) -> [u64; 104] {
+fn compare_large(out: &mut impl Write, t: [u64; 104], seed: u64) -> io::Result<[u64; 104]> {
     let g = inverting::large(chance::draw(seed, 9));
     let u = compare_calls(t, g, seed, 4);
     let v = judged::compare_order(u, spoiling::spoiled(g, seed), 1);
     let w = judged::compare_order(v, g, 5);
-    show(t, w, g);
-    w
+    show(out, t, w, g)?;
+    Ok(w)
 }
 
-fn compare_crowded(t: [u64; 104], seed: u64) -> [u64; 104] {
+fn compare_crowded(out: &mut impl Write, t: [u64; 104], seed: u64) -> io::Result<[u64; 104]> {
     let g = making::crowded(chance::draw(seed, 10));
     let u = compare_calls(t, g, seed, 2);
     let v = texts::compare_next(u, g);
-    show(t, v, g);
-    v
+    show(out, t, v, g)?;
+    Ok(v)
 }
 
-fn compare_all_large(t: [u64; 104]) -> [u64; 104] {
+fn compare_all_large(out: &mut impl Write, t: [u64; 104]) -> io::Result<[u64; 104]> {
     let mut u = t;
     let mut k: u64 = 0;
     while k < LARGE {
-        let v = compare_large(u, chance::draw(SEED ^ 1, k));
-        let next = compare_crowded(v, chance::draw(SEED ^ 2, k));
+        let v = compare_large(out, u, chance::draw(SEED ^ 1, k))?;
+        let next = compare_crowded(out, v, chance::draw(SEED ^ 2, k))?;
         u = next;
         k += 1;
     }
-    u
+    Ok(u)
 }
 
-fn main() {
-    let t = compare_all_small(tally::none());
-    say_all(compare_all_large(t));
+fn main(rt: HostRuntime) -> io::Result<()> {
+    let mut out = BufWriter::new(rt.alloc(), io::writer(&rt))?;
+    let t = compare_all_small(&mut out, tally::none())?;
+    let u = compare_all_large(&mut out, t)?;
+    say_all(&mut out, u)?;
+    out.flush()
 }

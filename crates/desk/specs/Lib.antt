@@ -1,3 +1,2 @@
 -- What the desk program prints of its input.
 pub mod Answers
-pub mod Laws

@@ -7,11 +7,13 @@ ghost use Rattle.intake.specs.Intake.{InputWithin};
 ghost use Rattle.desk.specs.Answers.{DeskAnswered};
 
 use intake::Input;
+use std::io;
 
 // One byte more than a text may have is read, so that a longer input is refused and not cut.
 const INPUT_ROOM: usize = 4097;
 
 // Puts what is printed of the input whose bytes are in text, and gives its length: nothing of a failed one.
+#[tactic(auto, unfolding(crate::specs::Answers::desk_answers))]
 fn answer(input: Input, text: &[u8], out: &mut [u8; report::ROOM]) -> usize
     requires { InputWithin input (length text.now) }
     ensures { DeskAnswered input text.now out.old result out.new }
@@ -22,25 +24,41 @@ fn answer(input: Input, text: &[u8], out: &mut [u8; report::ROOM]) -> usize
     }
 }
 
+// The system's words for an error, without the number that std puts behind them.
+fn words(said: &str) -> &str {
+    match said.split_once(" (os error ") {
+        Some((words, _)) => words,
+        None => said,
+    }
+}
+
+// Says what failed, and in the system's words why.
+fn fail(rt: &(impl Eprint + Alloc), what: &str, error: io::Error) -> io::Result<()> {
+    let said = error.to_string(rt.alloc())?;
+    let words = words(said.as_str());
+    eprintln!(rt; "{what}: {words}")
+}
+
 // Says which call failed, if one did.
-fn complain(input: Input, written: bool) {
-    match input {
-        Input::Whole(_) => {
-            if !written {
-                os::fail(b"desk: standard output");
-            }
-        }
-        Input::Failed => os::fail(b"desk: standard input"),
+fn complain(
+    rt: &(impl Eprint + Alloc),
+    unread: Option<io::Error>,
+    written: io::Result<()>,
+) -> io::Result<()> {
+    match (unread, written) {
+        (Some(error), _) => fail(rt, "desk: standard input", error),
+        (None, Err(error)) => fail(rt, "desk: standard output", error),
+        (None, Ok(())) => Ok(()),
     }
 }
 
 // Reads, judges and prints.
-fn main() {
+fn main(rt: HostRuntime) -> io::Result<()> {
     let mut text = [0u8; INPUT_ROOM];
-    let taken = intake::read_whole(libc::STDIN_FILENO, &mut text);
+    let taken = intake::read_whole(&mut rt.stdin(), &mut text);
     let input = taken.input;
     let mut out = [0u8; report::ROOM];
     let len = answer(input, &text, &mut out);
-    let written = io::write_all(libc::STDOUT_FILENO, &out[..len]);
-    complain(input, written);
+    let written = rt.write_all(&out[..len]);
+    complain(&rt, taken.error, written)
 }

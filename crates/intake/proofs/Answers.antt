@@ -1,67 +1,64 @@
--- Where an input stands after a read, by the tests on its answer and by what is assumed of it.
-use mathlib.Core.Path.{◌≡◌, refl, sym, ap, subst, ◌∙◌}
-use mathlib.Core.Bool.{true, false}
-use Prim.Native.Nat.{ℕ, zero, suc, ◌+◌, ◌≤◌, ◌<◌}
-use native.Mathlib.Omega.{arith}
-use lib.IntN.{ℤ, pos, negsuc, nat_abs}
-use lib.Dec.{T}
-use lib.Signed.{mag, lt_z, non_neg}
-use borrow.Author.Tests.{ltb-true, ltb-false}
-use Rattle.libc.specs.Io.{Moved}
-use Rattle.intake.specs.Intake.{after_read}
+-- What a read answered, by where the input stands after it, and what the buffer holds then.
+use Rattle.std.proofs.Common.{◌≡◌, refl, sym, ap, ap₂, subst, ◌∙◌, ℕ, zero, suc, ◌+◌, ◌≤◌, ◌<◌, ℤ, List, ◌++◌, length, take, add-zero, drop_at, le_refl, length-take-le, w64, FitsSigned, to_z, of_z, Option, Result, Ok, Err}
+use Rattle.std.proofs.Math.Facts.{to_z-of_z}
+use Rattle.std.proofs.lemmas.Slice.{take-put_mid_below}
+use Rattle.std.proofs.KnownBytes.{Consumes-trans, Consumes-kept}
+use Rattle.std.specs.declared.io.Error.{Error}
+use Rattle.std.specs.Io.{ReadsAtMost}
+use Rattle.std.specs.Io.KnownBytes.{Consumes, IsAtEnd, ReadConsumes}
+use lib.Seq.{take-add, take-append-le}
+use borrow.Rule.Slice.PartMut.{put_mid, post_of}
+use Rattle.intake.specs.Intake.{read_answer, after_read}
 use Rattle.intake.specs.declared.Stand.{Stand}
 use Rattle.intake.specs.declared.Stand.TheVariants as Stands
 
-none : (n : ℕ) → n < 0 → ⊥
-none n h = omega arith
+-- ---- by where the input stands
 
--- ---- by the sign of the answer
+-- more is what a read gave, behind what was there; all is what was there, and the read gave nothing; else the read failed
+abbrev Read : ℕ → Result ℕ Error → Stand → Type 0
+Read done r (Stands.More n) = (k : ℕ) × (r ≡ Ok (suc k)) × (n ≡ done + suc k)
+Read done r (Stands.All n) = (r ≡ Ok 0) × (n ≡ done)
+Read done r Stands.Failed = (e : Error) × (r ≡ Err e)
 
-pub above_non_neg : (z : ℤ) → lt_z (pos 0) z ≡ true → T (non_neg z)
-above_non_neg (pos n) e = tt
-above_non_neg (negsuc n) e = subst T (sym e) tt
-
-pub above_mag : (z : ℤ) → lt_z (pos 0) z ≡ true → nat_abs z ≡ mag z
-above_mag (pos n) e = refl
-above_mag (negsuc n) e = absurd (subst T (sym e) tt)
-
-pub above_more : (done : ℕ) (z : ℤ) → lt_z (pos 0) z ≡ true → Stands.More (done + nat_abs z) ≡ after_read done z
+read_by : (done : ℕ) (r : Result ℕ Error) → Read done r (after_read done (read_answer r))
 unfolding after_read
-above_more done (pos zero) e = absurd (none 0 (ltb-true 0 0 e))
-above_more done (pos (suc k)) e = refl
-above_more done (negsuc k) e = absurd (subst T (sym e) tt)
+read_by done (Ok zero) = (refl, refl)
+read_by done (Ok (suc k)) = (k, refl, refl)
+read_by done (Err e) = (e, refl)
 
-pub below_failed : (done : ℕ) (z : ℤ) → lt_z z (pos 0) ≡ true → Stands.Failed ≡ after_read done z
-unfolding after_read
-below_failed done (pos n) e = absurd (none n (ltb-true n 0 e))
-below_failed done (negsuc n) e = refl
+pub stood : (done : ℕ) (z : ℤ) (r : Result ℕ Error) (s : Stand) → FitsSigned w64 z → z ≡ read_answer r → s ≡ after_read done (to_z w64 (of_z w64 z)) → Read done r s
+stood done z r s fits said e =
+    subst (Read done r) (sym (e ∙ ap (after_read done) (to_z-of_z fits ∙ said))) (read_by done r)
 
-pub neither_all : (done : ℕ) (z : ℤ) → lt_z (pos 0) z ≡ false → lt_z z (pos 0) ≡ false → Stands.All done ≡ after_read done z
-unfolding after_read
-neither_all done (pos zero) e f = refl
-neither_all done (pos (suc k)) e f = absurd (none k (ltb-false 0 (suc k) e))
-neither_all done (negsuc k) e f = absurd (subst T f tt)
+-- ---- by what a read may give
 
--- ---- by what a read may answer
+-- what was read into the part of a buffer behind its first a bytes stands there
+read_in : (a k n : ℕ) (xs ys : List ℕ) → a ≤ length xs → n ≤ length ys → take (a + n) (put_mid a k xs ys) ≡ take a xs ++ take n ys
+read_in a k n xs ys within fits =
+    let after = post_of a k xs in
+    let behind = ap (take n) (drop_at (take a xs) (ys ++ after) a (length-take-le a xs within)) ∙ take-append-le n ys after fits in
+    take-add a n (put_mid a k xs ys) ∙ ap₂ (λ u v. u ++ v) (take-put_mid_below a k xs ys a (le_refl a) within) behind
 
-pub moved_mag : (room : ℕ) (z : ℤ) → Moved room z → mag z ≤ room
-moved_mag room (pos k) m = m
-moved_mag room (negsuc k) m = omega arith
+-- the bytes that are there after a read are all that was taken of the reader, in order: by a read that gives n bytes, by one that gives none, and by
+-- one that fails
+pub taken : (before between left : Option (List ℕ)) (done k n : ℕ) (r : Result ℕ Error) (xs ys : List ℕ) → done ≤ length xs → r ≡ Ok n → ReadsAtMost r ys
+    → ReadConsumes between left r ys → Consumes before between (take done xs) → Consumes before left (take (done + n) (put_mid done k xs ys))
+taken before between left done k n r xs ys within read fits bytes first =
+    let fit = subst (λ (q : Result ℕ Error). ReadsAtMost q ys) read fits in
+    let gave = subst (λ (q : Result ℕ Error). ReadConsumes between left q ys) read bytes in
+    subst (Consumes before left) (sym (read_in done k n xs ys within fit.0)) (Consumes-trans before between left _ _ first gave.0)
 
--- more is at least a byte more, and no more than there was room for; all is what was there before
-abbrev Bounded : ℕ → ℕ → Stand → Type 0
-Bounded done room (Stands.More n) = (done < n) × (n ≤ done + room)
-Bounded done room (Stands.All n) = n ≡ done
-Bounded done room Stands.Failed = Unit {0}
+pub taken_none : (before between left : Option (List ℕ)) (done k : ℕ) (r : Result ℕ Error) (xs ys : List ℕ) → done ≤ length xs → r ≡ Ok 0 → ReadsAtMost r ys
+    → ReadConsumes between left r ys → Consumes before between (take done xs) → Consumes before left (take done (put_mid done k xs ys))
+taken_none before between left done k r xs ys within read fits bytes first =
+    subst (λ (m : ℕ). Consumes before left (take m (put_mid done k xs ys))) (add-zero done) (taken before between left done k 0 r xs ys within read fits bytes first)
 
-bounded : (done room : ℕ) (z : ℤ) → Moved room z → Bounded done room (after_read done z)
-unfolding after_read
-bounded done room (pos zero) m = refl
-bounded done room (pos (suc k)) m = (omega arith, omega arith)
-bounded done room (negsuc k) m = tt
+pub taken_before : (before between left : Option (List ℕ)) (done k : ℕ) (r : Result ℕ Error) (e : Error) (xs ys : List ℕ) → done ≤ length xs → r ≡ Err e
+    → ReadConsumes between left r ys → Consumes before between (take done xs) → Consumes before left (take done (put_mid done k xs ys))
+taken_before before between left done k r e xs ys within read bytes first =
+    let kept = subst (λ (q : Result ℕ Error). ReadConsumes between left q ys) read bytes in
+    subst (Consumes before left) (sym (take-put_mid_below done k xs ys done (le_refl done) within)) (Consumes-kept before between left _ first kept)
 
-pub more_bounded : (done room : ℕ) (z : ℤ) (n : ℕ) → Moved room z → after_read done z ≡ Stands.More n → (done < n) × (n ≤ done + room)
-more_bounded done room z n m e = subst (Bounded done room) e (bounded done room z m)
-
-pub all_before : (done room : ℕ) (z : ℤ) (n : ℕ) → Moved room z → after_read done z ≡ Stands.All n → n ≡ done
-all_before done room z n m e = subst (Bounded done room) e (bounded done room z m)
+-- a read that found the end, with room for more, leaves the reader nothing
+pub at_end : (between left : Option (List ℕ)) (r : Result ℕ Error) (ys : List ℕ) → r ≡ Ok 0 → 0 < length ys → ReadConsumes between left r ys → IsAtEnd left
+at_end between left r ys read room bytes = (subst (λ (q : Result ℕ Error). ReadConsumes between left q ys) read bytes).1 refl room

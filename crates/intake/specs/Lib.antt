@@ -1,3 +1,2 @@
--- What a read call's answer means, and what follows from it.
+-- What a read call's answer means.
 pub mod Intake
-pub mod Laws

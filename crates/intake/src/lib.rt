@@ -1,9 +1,14 @@
 // An input read to its end, or said to have failed: a part of an input is never handed on as the whole.
 #![tactic(auto)]
 
-ghost use Rattle.std.specs.Prelude.{◌≡◌, ◌+◌, ◌^◌, ◌<◌, length};
+ghost use Rattle.std.specs.Prelude.{◌≡◌, ◌+◌, ◌^◌, ◌<◌, length, take, IfOk};
 ghost use Rattle.std.specs.Int.Signed.{mag};
-ghost use Rattle.intake.specs.Intake.{after_read, InputEnded};
+ghost use Rattle.std.specs.Io.{ReadsAtMost};
+ghost use Rattle.std.specs.Io.KnownBytes.{Consumes, ReadConsumes};
+ghost use Rattle.intake.specs.Intake.{after_read, read_answer, InputEnded, InputTaken, InputExhausts, InputErred};
+
+use std::io;
+use std::io::{ErrorKind, Read};
 
 // Where an input stands after a read: n bytes are there and more may come, those n are all of it, or the read failed.
 #[derive(Clone, Copy)]
@@ -20,15 +25,47 @@ pub enum Input {
     Failed,
 }
 
-// What became of an input, and the last read, which says why: how many bytes there were before it, and what it answered.
+// What became of an input, and the last read, which says why: how many bytes there were before it, what it answered, and its error where it
+// failed.
 #[derive(Clone, Copy)]
 pub struct Intake {
     pub input: Input,
     pub done: usize,
     pub last: isize,
+    pub error: Option<io::Error>,
+}
+
+// One read, made again where a signal interrupted it.
+fn read_on<R: Read>(reader: &mut R, buf: &mut [u8]) -> io::Result<usize>
+    ensures bound { ReadsAtMost result buf.new }
+    ensures bytes { ReadConsumes (R.remaining reader.old) (R.remaining reader.new) result buf.new }
+{
+    for _ in 0..u64::MAX {
+        match reader.read(buf) {
+            Ok(n) => return Ok(n),
+            Err(e) => {
+                if e.kind() != ErrorKind::Interrupted {
+                    return Err(e);
+                }
+            }
+        }
+    }
+    reader.read(buf)
+}
+
+// What a read answered, as one number: how many bytes it gave, or -1 where it failed.
+fn answer_of(read: io::Result<usize>) -> isize
+    requires { IfOk read (λ n. n < 2 ^ 63) }
+    ensures { result ≡ read_answer read }
+{
+    match read {
+        Ok(n) => n as isize,
+        Err(_) => -1,
+    }
 }
 
 // Where an input stands by a read call's answer, of which `done` bytes came before: only 0 is the end.
+#[tactic(auto, unfolding(crate::specs::Intake::after_read))]
 fn stand_after(done: usize, answer: isize) -> Stand
     requires { done + mag answer < 2 ^ 64 }
     ensures { result ≡ after_read done answer }
@@ -43,13 +80,18 @@ fn stand_after(done: usize, answer: isize) -> Stand
 }
 
 // Reads until the input ends or the buffer is full. A read that fails makes a failed input of it, whatever came before.
-pub fn read_whole(fd: i32, buf: &mut [u8]) -> Intake
-    ensures { InputEnded result.input result.done result.last (length buf.new) }
+pub fn read_whole<R: Read>(reader: &mut R, buf: &mut [u8]) -> Intake
+    ensures ended { InputEnded result.input result.done result.last (length buf.new) }
+    ensures taken { InputTaken result.input result.done }
+    ensures bytes { Consumes (R.remaining reader.old) (R.remaining reader.new) (take result.done buf.new) }
+    ensures end { InputExhausts result.input (length buf.new) (R.remaining reader.new) }
+    ensures error { InputErred result.input result.error }
 {
     let mut done = 0;
     let mut last = 0;
     while done < buf.len() {
-        last = libc::read(fd, &mut buf[done..]);
+        let read = read_on(reader, &mut buf[done..]);
+        last = answer_of(read);
         let stand = stand_after(done, last);
         match stand {
             Stand::More(n) => done = n,
@@ -57,11 +99,13 @@ pub fn read_whole(fd: i32, buf: &mut [u8]) -> Intake
                 input: Input::Whole(n),
                 done: done,
                 last: last,
+                error: None,
             },
             Stand::Failed => return Intake {
                 input: Input::Failed,
                 done: done,
                 last: last,
+                error: read.err(),
             },
         }
     }
@@ -69,5 +113,6 @@ pub fn read_whole(fd: i32, buf: &mut [u8]) -> Intake
         input: Input::Whole(done),
         done: done,
         last: last,
+        error: None,
     }
 }

@@ -2,6 +2,8 @@
 #![tactic(auto)]
 
 use data::Which;
+use std::io;
+use std::io::{BufWriter, Write};
 use test_show::{say, say_verdict};
 
 fn judgement_asked(asked: &[u8]) -> Which {
@@ -22,7 +24,7 @@ fn order_asked(asked: &[u8]) -> usize {
     0
 }
 
-fn show(input: &[u8]) {
+fn show(out: &mut impl Write, input: &[u8]) -> io::Result<()> {
     let asked = test_show::text_at(input, 0);
     let which = judgement_asked(asked);
     let t = order_asked(asked);
@@ -33,13 +35,15 @@ fn show(input: &[u8]) {
         let j = judge::judge(listing, which, t);
         let v = j.verdict;
         let set = j.set;
-        say(asked);
-        say_verdict(v, set);
+        say(out, asked)?;
+        say_verdict(out, v, set)?;
     }
+    Ok(())
 }
 
-fn main() {
-    let mut input = io::large_buffer();
-    let n = io::read_full(0, &mut input);
-    show(&input[..n]);
+fn main(rt: HostRuntime) -> io::Result<()> {
+    let mut out = BufWriter::new(rt.alloc(), io::writer(&rt))?;
+    let input = test_show::input(rt.stdin(), rt.alloc())?;
+    show(&mut out, &input)?;
+    out.flush()
 }

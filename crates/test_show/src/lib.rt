@@ -4,15 +4,27 @@
 ghost use Rattle.std.specs.Prelude.{◌+◌, ◌≤◌, length};
 
 use data::{Judged, Outcome, ProbeSet, Verdict};
+use std::alloc::Global;
+use std::io;
+use std::io::{Read, Write};
 
-pub fn say(word: &[u8]) {
-    io::write_all(1, word);
+// The most bytes of standard input that the programs take.
+const INPUT_ROOM: u64 = 65536;
+
+// What a program is given to read.
+pub fn input<R: Read + Drop>(reader: R, alloc: Global) -> io::Result<Vec<u8>> {
+    let mut bytes = Vec::new(alloc);
+    reader.take(INPUT_ROOM).read_to_end(&mut bytes)?;
+    Ok(bytes)
+}
+
+pub fn say(out: &mut impl Write, word: &[u8]) -> io::Result<()> {
+    out.write_all(word)
 }
 
 // A space and the number.
-pub fn say_number(n: u64) {
-    say(b" ");
-    io::print_decimal(1, n);
+pub fn say_number(out: &mut impl Write, n: u64) -> io::Result<()> {
+    write!(out, " {n}")
 }
 
 pub fn wide(n: usize) -> u64 {
@@ -44,41 +56,42 @@ pub fn text_at(texts: &[u8], at: usize) -> &[u8]
 // ---- answers
 
 // The wires of a set, those before its end.
-pub fn say_set(set: ProbeSet) {
+pub fn say_set(out: &mut impl Write, set: ProbeSet) -> io::Result<()> {
     let places = set.places;
     let len = set.len;
     let mut i = 0;
     while i < 4 {
         if i < len {
-            say_number(wide_byte(places[i]));
+            say_number(out, wide_byte(places[i]))?;
         }
         i += 1;
     }
+    Ok(())
 }
 
-pub fn say_verdict(v: Verdict, set: ProbeSet) {
+pub fn say_verdict(out: &mut impl Write, v: Verdict, set: ProbeSet) -> io::Result<()> {
     match v {
         Verdict::Pass(count) => {
-            say(b" pass");
-            say_number(count);
+            say(out, b" pass")?;
+            say_number(out, count)?;
         }
         Verdict::Open(count) => {
-            say(b" open");
-            say_number(count);
-            say_set(set);
+            say(out, b" open")?;
+            say_number(out, count)?;
+            say_set(out, set)?;
         }
         Verdict::Refused(f) => {
-            say(b" refused");
-            say_number(f.number());
+            say(out, b" refused")?;
+            say_number(out, f.number())?;
         }
     }
-    say(b"\n");
+    say(out, b"\n")
 }
 
-pub fn show_judged(word: &[u8], t: usize, j: Judged) {
+pub fn show_judged(out: &mut impl Write, word: &[u8], t: usize, j: Judged) -> io::Result<()> {
     let v = j.verdict;
     let set = j.set;
-    say(word);
-    say_number(wide(t));
-    say_verdict(v, set);
+    say(out, word)?;
+    say_number(out, wide(t))?;
+    say_verdict(out, v, set)
 }

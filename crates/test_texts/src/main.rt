@@ -2,6 +2,8 @@
 #![tactic(auto)]
 
 use data::{Listing, Outcome, Ran, Shape, Wire, Written};
+use std::io;
+use std::io::{BufWriter, Write};
 use test_show::{outcome_number, say, say_number, wide, wide_byte};
 
 // What every buffer is filled with.
@@ -10,14 +12,15 @@ const FILL: u8 = 42;
 // ---- bytes
 
 // Each of the first n bytes as a number, and the next.
-fn say_first(bytes: &[u8], n: usize) {
+fn say_first(out: &mut impl Write, bytes: &[u8], n: usize) -> io::Result<()> {
     let mut i = 0;
     while i < bytes.len() {
         if i <= n {
-            say_number(wide_byte(bytes[i]));
+            say_number(out, wide_byte(bytes[i]))?;
         }
         i += 1;
     }
+    Ok(())
 }
 
 // How many bytes are not the one that the buffer was filled with.
@@ -26,7 +29,7 @@ fn altered(buf: &[u8], filled: u8) -> u64 {
     let mut i = 0;
     while i < buf.len() {
         if buf[i] != filled {
-            count = std::num::wrapping_add_u64(count, 1);
+            count = count.wrapping_add(1);
         }
         i += 1;
     }
@@ -52,23 +55,23 @@ fn begins_with(buf: &[u8], text: &[u8]) -> bool {
 // ---- the calls
 
 // `write`: outcome, length, whether the text came back, how many later bytes were altered.
-fn show_write(listing: Listing, text: &[u8]) {
+fn show_write(out: &mut impl Write, listing: Listing, text: &[u8]) -> io::Result<()> {
     let mut buf = [FILL; 4096];
     let r = writer::write(listing, &mut buf);
     let o = r.outcome;
-    say(b"write");
-    say_number(outcome_number(o));
-    say_number(wide(r.len));
+    say(out, b"write")?;
+    say_number(out, outcome_number(o))?;
+    say_number(out, wide(r.len))?;
     if begins_with(&buf, text) {
-        say(b" same");
+        say(out, b" same")?;
     } else {
-        say(b" other");
+        say(out, b" other")?;
     }
     let len = r.len;
     if len <= 4096 {
-        say_number(altered(&buf[len..], FILL));
+        say_number(out, altered(&buf[len..], FILL))?;
     }
-    say(b"\n");
+    say(out, b"\n")
 }
 
 // `write` into the first bytes of the buffer.
@@ -80,18 +83,19 @@ fn write_first(listing: Listing, room: usize, buf: &mut [u8]) -> Written {
 }
 
 // `write` into a buffer that is one byte too short: outcome, length, how many bytes were altered.
-fn show_short_write(listing: Listing, text: &[u8]) {
+fn show_short_write(out: &mut impl Write, listing: Listing, text: &[u8]) -> io::Result<()> {
     let mut buf = [FILL; 4096];
     let full = text.len();
     if 0 < full {
         let r = write_first(listing, full - 1, &mut buf);
         let o = r.outcome;
-        say(b"write short");
-        say_number(outcome_number(o));
-        say_number(wide(r.len));
-        say_number(altered(&buf, FILL));
-        say(b"\n");
+        say(out, b"write short")?;
+        say_number(out, outcome_number(o))?;
+        say_number(out, wide(r.len))?;
+        say_number(out, altered(&buf, FILL))?;
+        say(out, b"\n")?;
     }
+    Ok(())
 }
 
 // `run` into the first bytes of the buffer.
@@ -110,16 +114,23 @@ fn run_first(
 }
 
 // `run` from three words: outcome, length, and the buffer's bytes for the wires and one more.
-fn show_run(listing: Listing, shares: u64, randoms: u64, publics: u64, room: usize) {
+fn show_run(
+    out: &mut impl Write,
+    listing: Listing,
+    shares: u64,
+    randoms: u64,
+    publics: u64,
+    room: usize,
+) -> io::Result<()> {
     let mut buf = [FILL; 130];
     let a = run_first(listing, shares, randoms, publics, room, &mut buf);
     let o = a.outcome;
-    say(b"run");
-    say_number(outcome_number(o));
-    say_number(wide(a.len));
-    say(b":");
-    say_first(&buf, listing.shape.n);
-    say(b"\n");
+    say(out, b"run")?;
+    say_number(out, outcome_number(o))?;
+    say_number(out, wide(a.len))?;
+    say(out, b":")?;
+    say_first(out, &buf, listing.shape.n)?;
+    say(out, b"\n")
 }
 
 // ---- records that no read gives
@@ -139,80 +150,89 @@ fn spoiled(ws: [Wire; 128]) -> [Wire; 128] {
 }
 
 // `run` of S, D, n and records that may be spoiled: outcome, and how many bytes were altered.
-fn show_refused_run(s: usize, d: usize, n: usize, ws: [Wire; 128]) {
+fn show_refused_run(
+    out: &mut impl Write,
+    s: usize,
+    d: usize,
+    n: usize,
+    ws: [Wire; 128],
+) -> io::Result<()> {
     let mut buf = [FILL; 256];
     let shape = Shape { s, d, n };
     let listing = Listing { shape, wires: ws };
     let a = runner::run(listing, 0, 0, 0, &mut buf);
     let o = a.outcome;
-    say_number(outcome_number(o));
-    say_number(altered(&buf, FILL));
+    say_number(out, outcome_number(o))?;
+    say_number(out, altered(&buf, FILL))
 }
 
 // One wire more than was read, 129 wires, no secret, nine shares, and a record that is not its place's.
-fn show_spoiled(listing: Listing) {
+fn show_spoiled(out: &mut impl Write, listing: Listing) -> io::Result<()> {
     let Shape { s, d, n } = listing.shape;
     let ws = listing.wires;
-    say(b"spoiled");
+    say(out, b"spoiled")?;
     if n <= 128 {
-        show_refused_run(s, d, n + 1, ws);
+        show_refused_run(out, s, d, n + 1, ws)?;
     }
-    show_refused_run(s, d, 129, ws);
-    show_refused_run(0, d, n, ws);
-    show_refused_run(s, 9, n, ws);
-    show_refused_run(s, d, n, spoiled(ws));
-    say(b"\n");
+    show_refused_run(out, s, d, 129, ws)?;
+    show_refused_run(out, 0, d, n, ws)?;
+    show_refused_run(out, s, 9, n, ws)?;
+    show_refused_run(out, s, d, n, spoiled(ws))?;
+    say(out, b"\n")
 }
 
 // ---- one text
 
-fn show_calls(listing: Listing, text: &[u8]) {
-    show_write(listing, text);
-    show_short_write(listing, text);
+fn show_calls(out: &mut impl Write, listing: Listing, text: &[u8]) -> io::Result<()> {
+    show_write(out, listing, text)?;
+    show_short_write(out, listing, text)?;
     let n = listing.shape.n;
     if 0 < n {
         if n <= 128 {
-            show_run(listing, 0, 0, 0, n + 2);
-            show_run(listing, 1, 0, 0, n + 2);
-            show_run(listing, 2, 1, 0, n + 2);
-            show_run(listing, 0, 2, 1, n + 2);
-            show_run(listing, 0, 0, 0, n - 1);
-            show_run(listing, 9223372036854775808, 0, 0, n - 1);
+            show_run(out, listing, 0, 0, 0, n + 2)?;
+            show_run(out, listing, 1, 0, 0, n + 2)?;
+            show_run(out, listing, 2, 1, 0, n + 2)?;
+            show_run(out, listing, 0, 2, 1, n + 2)?;
+            show_run(out, listing, 0, 0, 0, n - 1)?;
+            show_run(out, listing, 9223372036854775808, 0, 0, n - 1)?;
         }
     }
-    show_spoiled(listing);
+    show_spoiled(out, listing)
 }
 
-fn show_text(text: &[u8]) {
+fn show_text(out: &mut impl Write, text: &[u8]) -> io::Result<()> {
     let r = reader::read(text);
     let o = r.outcome;
-    say(b"read");
-    say_number(outcome_number(o));
-    say_number(wide(r.line));
+    say(out, b"read")?;
+    say_number(out, outcome_number(o))?;
+    say_number(out, wide(r.line))?;
     let listing = r.listing;
     let Shape { s, d, n } = listing.shape;
-    say_number(wide(s));
-    say_number(wide(d));
-    say_number(wide(n));
-    say(b"\n");
+    say_number(out, wide(s))?;
+    say_number(out, wide(d))?;
+    say_number(out, wide(n))?;
+    say(out, b"\n")?;
     match o {
-        Outcome::Done => show_calls(listing, text),
+        Outcome::Done => show_calls(out, listing, text)?,
         Outcome::Refused(_) => {}
     }
+    Ok(())
 }
 
 // Each text ends in a zero byte.
-fn show_all(texts: &[u8]) {
+fn show_all(out: &mut impl Write, texts: &[u8]) -> io::Result<()> {
     let mut at = 0;
     while at < texts.len() {
         let text = test_show::text_at(texts, at);
-        show_text(text);
+        show_text(out, text)?;
         at = at + text.len() + 1;
     }
+    Ok(())
 }
 
-fn main() {
-    let mut texts = io::large_buffer();
-    let n = io::read_full(0, &mut texts);
-    show_all(&texts[..n]);
+fn main(rt: HostRuntime) -> io::Result<()> {
+    let mut out = BufWriter::new(rt.alloc(), io::writer(&rt))?;
+    let texts = test_show::input(rt.stdin(), rt.alloc())?;
+    show_all(&mut out, &texts)?;
+    out.flush()
 }

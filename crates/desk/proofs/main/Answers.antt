@@ -1,0 +1,8 @@
+-- The program keeps within its two buffers.
+use Rattle.intake.proofs.Laws.Inputs.{ended_within}
+use Rattle.desk.proofs.main.Goals as goal
+
+pub answer-len-requires : goal.answer-len-requires
+answer-len-requires c =
+    let taken = c.read_whole-taken in
+    ended_within taken.result.input taken.result.done taken.result.last _ taken.ensures.ended
