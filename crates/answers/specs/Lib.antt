@@ -1,2 +1,2 @@
--- The lines of the orders in the order of the code, and their laws.
+-- The lines of the orders in the order of the code.
 pub mod Orders

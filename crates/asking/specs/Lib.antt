@@ -1,2 +1,2 @@
--- The tests before a call on one set, and the laws about them.
+-- The tests before a call on one set.
 pub mod Checks

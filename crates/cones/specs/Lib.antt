@@ -1,4 +1,4 @@
--- The tables of the cones, how they are made, and what is seen of a set by them; and the laws about them.
+-- The tables of the cones, how they are made, and what is seen of a set by them.
 pub mod Bits
 pub mod Tables
 pub mod Making

@@ -1,2 +1,2 @@
--- The counts of consumers, and the laws about them.
+-- The counts of consumers.
 pub mod Consumers

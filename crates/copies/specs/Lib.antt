@@ -1,2 +1,2 @@
--- The first records of a lent list, and their laws.
+-- The first records of a lent list.
 pub mod First

@@ -1,2 +1,2 @@
--- The record of a wire, the counts over the first records, and their laws.
+-- The record of a wire, and the counts over the first records.
 pub mod Counting

@@ -1,4 +1,4 @@
--- The words that all definitions share, those of the refusals and of probe sets (sections 7 and 4 of docs/SPECIFICATION.md), and laws about them.
+-- The words that all definitions share, and those of the refusals and of probe sets (sections 7 and 4 of docs/SPECIFICATION.md).
 pub mod Basics
 pub mod Refusals
 pub mod ProbeSets

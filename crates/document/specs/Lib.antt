@@ -1,5 +1,4 @@
--- The definitions, a file or two for a section of docs/SPECIFICATION.md (sections 4 and 7 are in the crate `data`); the laws about them;
--- and what is proved of them.
+-- The definitions, a file or two for a section of docs/SPECIFICATION.md (sections 4 and 7 are in the crate `data`).
 pub mod Routine
 pub mod Lines
 pub mod Reading

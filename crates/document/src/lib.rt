@@ -1,2 +1,2 @@
-// The definitions of docs/SPECIFICATION.md and the theorems about them stand in specs/; nothing here computes.
+// The definitions of docs/SPECIFICATION.md stand in specs/ and the theorems about them in proofs/; nothing here computes.
 #![tactic(auto)]

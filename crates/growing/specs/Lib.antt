@@ -1,2 +1,2 @@
--- What one set of a judgement is grown from, and what is asked of it; and the laws about it.
+-- What one set of a judgement is grown from, and what is asked of it.
 pub mod Growing

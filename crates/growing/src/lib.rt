@@ -8,7 +8,7 @@ ghost use Rattle.growing.specs.Growing.{none, nothing_grown, own_with, grown_by,
 use data::{Listing, ProbeSet, Which};
 
 // What a search goes by from its first set to its last: the judgement, the routine and the order.
-// Its tables are lent beside it, because a function over a struct that holds references is proved by hand.
+// Its tables are lent beside it, and not copied into it: they are made once for all sets.
 #[derive(Clone, Copy)]
 pub struct Question {
     pub which: Which,

@@ -1,2 +1,2 @@
-// None of the impostors meets the contract of a call; the theorems stand in specs/, and nothing here computes.
+// None of the impostors meets the contract of a call; the theorems stand in proofs/, and nothing here computes.
 #![tactic(auto)]

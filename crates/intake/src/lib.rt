@@ -8,7 +8,7 @@ ghost use Rattle.std.specs.Io.KnownBytes.{Consumes, ReadConsumes};
 ghost use Rattle.intake.specs.Intake.{after_read, read_answer, InputEnded, InputTaken, InputExhausts, InputErred};
 
 use std::io;
-use std::io::{ErrorKind, Read};
+use std::io::Read;
 
 // Where an input stands after a read: n bytes are there and more may come, those n are all of it, or the read failed.
 #[derive(Clone, Copy)]
@@ -33,24 +33,6 @@ pub struct Intake {
     pub done: usize,
     pub last: isize,
     pub error: Option<io::Error>,
-}
-
-// One read, made again where a signal interrupted it.
-fn read_on<R: Read>(reader: &mut R, buf: &mut [u8]) -> io::Result<usize>
-    ensures bound { ReadsAtMost result buf.new }
-    ensures bytes { ReadConsumes (R.remaining reader.old) (R.remaining reader.new) result buf.new }
-{
-    for _ in 0..u64::MAX {
-        match reader.read(buf) {
-            Ok(n) => return Ok(n),
-            Err(e) => {
-                if e.kind() != ErrorKind::Interrupted {
-                    return Err(e);
-                }
-            }
-        }
-    }
-    reader.read(buf)
 }
 
 // What a read answered, as one number: how many bytes it gave, or -1 where it failed.
@@ -90,7 +72,7 @@ pub fn read_whole<R: Read>(reader: &mut R, buf: &mut [u8]) -> Intake
     let mut done = 0;
     let mut last = 0;
     while done < buf.len() {
-        let read = read_on(reader, &mut buf[done..]);
+        let read = reader.read(&mut buf[done..]);
         last = answer_of(read);
         let stand = stand_after(done, last);
         match stand {

@@ -1,2 +1,2 @@
--- The answer of a judgement, and the laws about it.
+-- The answer of a judgement.
 pub mod Answers

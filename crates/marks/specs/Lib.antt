@@ -1,2 +1,2 @@
--- What the passes over the wires rest on, and the laws about them.
+-- What the passes over the wires rest on.
 pub mod Passes

@@ -1,2 +1,2 @@
--- What the text of a routine has of one wire, and its laws.
+-- What the text of a routine has of one wire.
 pub mod Pieces

@@ -1,3 +1,3 @@
--- The printed lines field by field, how long they can be, and their laws.
+-- The printed lines field by field, and how long they can be.
 pub mod Fields
 pub mod Rooms

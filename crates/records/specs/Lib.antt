@@ -1,2 +1,2 @@
--- What the test of refusal 11 finds out, record by record, and what a passed test says; and their laws.
+-- What the test of refusal 11 finds out, record by record, and what a passed test says.
 pub mod Records

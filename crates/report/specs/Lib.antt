@@ -1,2 +1,2 @@
--- What a report promises, and the laws about it.
+-- What a report promises.
 pub mod Reports

@@ -1,2 +1,3 @@
+-- The laws behind the theorems, and the theorems.
 pub mod Laws
 pub mod TextTheorems

@@ -1,2 +1,3 @@
--- Reading and writing undo each other: the words of the theorems, what is proved on the way, and the theorems.
+-- Reading and writing undo each other: the words of the theorems.
 pub mod Texts
+pub mod Made

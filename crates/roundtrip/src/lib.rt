@@ -1,2 +1,2 @@
-// Reading and writing a routine text undo each other; the theorems stand in specs/, and nothing here computes.
+// Reading and writing a routine text undo each other; the theorems stand in proofs/, and nothing here computes.
 #![tactic(auto)]

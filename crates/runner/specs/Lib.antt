@@ -1,2 +1,2 @@
--- The parts of a run, and their laws.
+-- The parts of a run.
 pub mod Run

@@ -1,2 +1,2 @@
--- What a search of sets in order goes by and finds, and the laws about it.
+-- What a search of sets in order goes by and finds.
 pub mod Search

@@ -1,2 +1,2 @@
--- What the words of shares hold, and the laws about it.
+-- What the words of shares hold.
 pub mod Words

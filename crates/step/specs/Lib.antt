@@ -1,2 +1,2 @@
--- What the search for the next step goes by, and the laws about it.
+-- What the search for the next step goes by.
 pub mod Next

@@ -1,4 +1,4 @@
-// Words and numbers on standard output, for the programs that run the calls and compare what they answer.
+// Words and numbers written where a program prints, for the programs that run the calls and compare what they answer.
 #![tactic(auto)]
 
 ghost use Rattle.std.specs.Prelude.{◌+◌, ◌≤◌, length};

@@ -1,2 +1,2 @@
--- The lent words against the counts, and the laws of their bits.
+-- The lent words against the counts.
 pub mod Words

@@ -1,2 +1,2 @@
--- The text in the order of the code, and its laws.
+-- The text in the order of the code.
 pub mod Parts

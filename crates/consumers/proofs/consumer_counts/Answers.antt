@@ -3,7 +3,6 @@ use mathlib.Core.Bool.{Bool, not, ◌&&◌}
 use mathlib.Core.Path.{ap}
 use Prim.Native.Nat.{◌-◌}
 use native.Mathlib.Omega.{arith}
-use borrow.Author.Tests.{not-true}
 use borrow.Author.Rules.{rules}
 use Rattle.data.proofs.Laws.Tests.{and_false}
 use Rattle.data.specs.Basics.{at}
@@ -24,7 +23,7 @@ loop-u-preserved-then-not-leaf-u c = let s = c in
     let l = c.loop-u in (
       omega arith,
       rw c.count_operands-next.ensures (counts_on s.args.n s.args.ws s.args.leaf s.args.alive l.u l.counts (omega arith) (omega arith)
-          (s.requires.low (l.u - 1) (omega arith)) c.if-alive-u.true (not-true _ c.if-not-leaf-u.true-raw) l.invariant.1),
+          (s.requires.low (l.u - 1) (omega arith)) c.if-alive-u.true c.if-not-leaf-u.true l.invariant.1),
     )
 
 pub loop-u-preserved : goal.loop-u-preserved

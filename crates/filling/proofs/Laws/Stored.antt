@@ -21,10 +21,7 @@ use Rattle.taking.proofs.LineLaws.{take_bounded}
 use Rattle.lines.proofs.Laws.{begun_bounded}
 use Rattle.data.specs.declared.Filled.{Filled}
 use Rattle.document.specs.Lent.{read_for, filled, filled_with, lent_read, lent_read_into, ReadsInto}
-
--- what a read leaves in a list
-abbrev pub stored : Read → List Wire → List Wire
-stored r list = take r.listing.shape.n r.listing.wires ++ drop r.listing.shape.n list
+use Rattle.filling.specs.Stored.{stored}
 
 record Storable (r : Read) : Type 0 where
   few : r.listing.shape.n ≤ 128

@@ -11,22 +11,22 @@ loop-done-smaller g c =
     let read = stood _ _ _ _ record { sfits = c.answer_of-last.type_inv } c.answer_of-last.ensures c.in-More.ensures in
     let n = read.2 in
     let a = c.loop-done.auto.buf in
-    let b = c.read_on-read.auto.buf in
+    let b = c.read-read.auto.buf in
     omega arith
 
 pub loop-done-preserved : goal.loop-done-preserved
 loop-done-preserved g c =
     let read = stood _ _ _ _ record { sfits = c.answer_of-last.type_inv } c.answer_of-last.ensures c.in-More.ensures in
     record {
-      within = omega (arith, (subst (λ (q : Result ℕ Error). ReadsAtMost q c.read_on-read.new.buf) read.1 c.read_on-read.ensures.bound).0, read.2);
-      bytes = rw read.2 (taken _ _ _ _ _ _ _ _ _ c.loop-done.invariant.within read.1 c.read_on-read.ensures.bound c.read_on-read.ensures.bytes c.loop-done.invariant.bytes);
+      within = omega (arith, (subst (λ (q : Result ℕ Error). ReadsAtMost q c.read-read.new.buf) read.1 c.read-read.ensures.bound).0, read.2);
+      bytes = rw read.2 (taken _ _ _ _ _ _ _ _ _ c.loop-done.invariant.within read.1 c.read-read.ensures.bound c.read-read.ensures.bytes c.loop-done.invariant.bytes);
     }
 
 pub returns-in-All-clause-ended : goal.returns-in-All-clause-ended
 returns-in-All-clause-ended g c =
     let read = stood _ _ _ _ record { sfits = c.answer_of-last.type_inv } c.answer_of-last.ensures c.in-All.ensures in
     let same = read.1 in
-    let b = c.read_on-read.auto.buf in
+    let b = c.read-read.auto.buf in
     (omega arith, λ _. sym c.in-All.ensures)
 
 pub returns-in-All-clause-taken : goal.returns-in-All-clause-taken
@@ -37,17 +37,17 @@ returns-in-All-clause-taken g c =
 pub returns-in-All-clause-bytes : goal.returns-in-All-clause-bytes
 returns-in-All-clause-bytes g c =
     let read = stood _ _ _ _ record { sfits = c.answer_of-last.type_inv } c.answer_of-last.ensures c.in-All.ensures in
-    taken_none _ _ _ _ _ _ _ _ c.loop-done.invariant.within read.0 c.read_on-read.ensures.bound c.read_on-read.ensures.bytes c.loop-done.invariant.bytes
+    taken_none _ _ _ _ _ _ _ _ c.loop-done.invariant.within read.0 c.read-read.ensures.bound c.read-read.ensures.bytes c.loop-done.invariant.bytes
 
 pub returns-in-All-clause-end : goal.returns-in-All-clause-end
 returns-in-All-clause-end g c h =
     let read = stood _ _ _ _ record { sfits = c.answer_of-last.type_inv } c.answer_of-last.ensures c.in-All.ensures in
-    at_end _ _ _ _ read.0 (omega (arith, c.read_on-read.auto.buf)) c.read_on-read.ensures.bytes
+    at_end _ _ _ _ read.0 (omega (arith, c.read-read.auto.buf)) c.read-read.ensures.bytes
 
 pub returns-in-Failed-clause-bytes : goal.returns-in-Failed-clause-bytes
 returns-in-Failed-clause-bytes g c =
     let read = stood _ _ _ _ record { sfits = c.answer_of-last.type_inv } c.answer_of-last.ensures c.in-Failed.ensures in
-    taken_before _ _ _ _ _ _ _ _ _ c.loop-done.invariant.within read.1 c.read_on-read.ensures.bytes c.loop-done.invariant.bytes
+    taken_before _ _ _ _ _ _ _ _ _ c.loop-done.invariant.within read.1 c.read-read.ensures.bytes c.loop-done.invariant.bytes
 
 pub returns-in-Failed-clause-error : goal.returns-in-Failed-clause-error
 returns-in-Failed-clause-error g c =

@@ -4,7 +4,6 @@ use mathlib.Core.List.{List}
 use mathlib.Core.Path.{ap, ◌∙◌}
 use Prim.Native.Nat.{◌-◌}
 use native.Mathlib.Omega.{arith}
-use borrow.Author.Tests.{not-true}
 use Rattle.data.proofs.Laws.Tests.{and_false}
 use Rattle.document.specs.Padding.{live_down}
 use Rattle.data.specs.Basics.{at}
@@ -19,7 +18,7 @@ loop-u-preserved-then-not-leaf-u c = let s = c in
       omega arith,
       ap (λ (k : List Bool). live_down (wired s.args.n s.args.ws) s.args.leaf (u - 1) k) c.mark_operands-next.ensures
           ∙ live_on s.args.n s.args.ws s.args.leaf u c.loop-u.m (omega arith) (omega arith)
-          c.if-m-u.true (not-true _ c.if-not-leaf-u.true-raw)
+          c.if-m-u.true c.if-not-leaf-u.true
           ∙ c.loop-u.invariant.1,
     )
 

@@ -1,7 +1,6 @@
 -- `opening::set_open` meets its contract: an own random, the cones, or the run decides.
 use mathlib.Core.Path.{sym, ◌∙◌}
 use native.Mathlib.Omega.{arith}
-use borrow.Author.Tests.{not-true}
 use Rattle.opening.proofs.Laws.Leaf.{holding, low_probes, own_open, cones_open, run_open}
 use Rattle.rule.proofs.Laws.Calls.{wired_of, shares_of}
 use Rattle.opening.proofs.set_open.Goals as goal
@@ -18,7 +17,7 @@ over-requires c = shares_of _ _ c.requires.fits
 pub returns-then-not-over : goal.returns-then-not-over
 returns-then-not-over c = let k = c.struct_known-1.given in
     sym (cones_open c.requires _ c.bound_of-bound.ensures (omega arith)
-    (sym c.over.ensures ∙ not-true _ c.if-not-over.true-raw))
+    (sym c.over.ensures ∙ c.if-not-over.true))
 
 pub probe_marks-probe-requires : goal.probe_marks-probe-requires
 probe_marks-probe-requires c = low_probes c.requires

@@ -15,6 +15,7 @@ use Rattle.data.specs.declared.State.{State}
 use Rattle.document.specs.Reading.{earlier, make, take_line}
 use Rattle.document.specs.Writing.{line_of_kind, wire_line, wire_lines, out_lines, lines_of, text_of}
 use Rattle.data.proofs.Laws.Tests.{both, and_i, all_at, all_of}
+use Rattle.roundtrip.specs.Made.{Made}
 use Rattle.roundtrip.specs.Texts.{Below, Writable, Each}
 use Rattle.roundtrip.proofs.Laws.Forms.{below_more}
 use Rattle.roundtrip.proofs.Laws.LineTexts.{each_lines, text_append, line_short, out_short}
@@ -77,15 +78,6 @@ ranged_is s d h =
     record { s_most = p; d_least = leb-true 2 d b.1; d_most = q; few = let z = mul-le-mul_right d p in omega arith }
 
 -- ---- one record
-
--- what a line can make wire w: no share, with earlier operands, and 0 for those it has not
-abbrev pub Made : ℕ → Kind → ℕ → ℕ → Type 0
-Made w K.Share a b = ⊥
-Made w K.Rand a b = (a ≡ 0) × (b ≡ 0)
-Made w K.Pub a b = (a ≡ 0) × (b ≡ 0)
-Made w K.Xor a b = (a < w) × (b < w)
-Made w K.And a b = (a < w) × (b < w)
-Made w K.Not a b = (a < w) × (b ≡ 0)
 
 pub made_fits : (R : Routine) (w : ℕ) (k : Kind) (a b : ℕ) → R.S * R.D ≤ w → Made w k a b → fits R w k a b ≡ true
 unfolding fits

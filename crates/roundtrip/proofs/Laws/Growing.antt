@@ -19,7 +19,8 @@ use Rattle.document.specs.Reading.{with_mark}
 use Rattle.document.specs.Writing.{line_of_kind, wire_line, wire_lines, out_lines, lines_of}
 use Rattle.data.proofs.Laws.Tests.{wire_cases, tally_ext}
 use Rattle.roundtrip.proofs.Laws.Tests.{tally_one}
-use Rattle.roundtrip.proofs.Laws.Formed.{Formed, Made, made_fits, wire_fits}
+use Rattle.roundtrip.specs.Made.{Made}
+use Rattle.roundtrip.proofs.Laws.Formed.{Formed, made_fits, wire_fits}
 
 -- ---- the lines of two routines that agree
 

@@ -22,7 +22,8 @@ use Rattle.roundtrip.specs.Texts.{Below, Each, listing_for, read_of}
 use Rattle.roundtrip.proofs.Laws.Tests.{not_done, none_tally}
 use Rattle.roundtrip.proofs.Laws.Cuts.{ended_text}
 use Rattle.roundtrip.proofs.Laws.LineTexts.{text_lines_lem}
-use Rattle.roundtrip.proofs.Laws.Formed.{Formed, Made, lines_below, each_writable}
+use Rattle.roundtrip.specs.Made.{Made}
+use Rattle.roundtrip.proofs.Laws.Formed.{Formed, lines_below, each_writable}
 use Rattle.roundtrip.proofs.Laws.Growing.{with_wires, more, size_more, more_old, more_new, formed_more, lines_more}
 use Rattle.roundtrip.proofs.Laws.Growing.{marking, size_marking, marking_other, outputs_marking, formed_marking, lines_marking}
 use Rattle.roundtrip.proofs.Laws.States.{StandsFor, fresh, holds_made, holds_marked, Does, makes, marks, does}
@@ -177,26 +178,40 @@ holds_read st R h =
     ap₂ (λ (s d : ℕ). read_with s d st.n st.wires) h.s_is h.d_is
     ∙ ap₂ (λ (n : ℕ) (vs : List Wire). read_with R.S R.D n vs) h.n_is h.wires_are
 
-module _ (t : List ℕ) (h : (reading t).outcome ≡ Done) where
-  reach : Reached (reading t) (lines_in t)
-  reach = (accepted t h).reached
+-- of a text with what its lines led to
+module _ (t : List ℕ) (whole : ReadWhole t) where
+  abbrev reach : Reached (reading t) (lines_in t)
+  reach = whole.reached
 
   routine_is : routine_in (reading t).listing ≡ reach.routine
   routine_is =
       ap (λ (r : Read). routine_in r.listing) (reach.is ∙ holds_read reach.state reach.routine reach.known.holds)
       ∙ routine_of_read reach.routine
 
+  formed_by : Formed (routine_in (reading t).listing)
+  formed_by = subst Formed (sym routine_is) reach.known.is_formed
+
+  lines_by : lines_of (routine_in (reading t).listing) ≡ lines_in t
+  lines_by = ap lines_of routine_is ∙ reach.known.said
+
+  whole_by : reading t ≡ read_of (routine_in (reading t).listing)
+  whole_by = reach.is ∙ holds_read reach.state reach.routine reach.known.holds ∙ ap (λ (R : Routine). read_of R) (sym routine_is)
+
+  text_by : text_of (routine_in (reading t).listing) ≡ t
+  unfolding text_of
+  text_by =
+      let below : Each (Below 128) (lines_in t) = subst (Each (Below 128)) lines_by (lines_below (routine_in (reading t).listing) formed_by) in
+      ap text_of_lines lines_by ∙ text_lines_lem (heads (cut lf t)) (each_writable (lines_in t) below) ∙ ended_text t whole.some whole.shut
+
+module _ (t : List ℕ) (h : (reading t).outcome ≡ Done) where
   pub read_formed : Formed (routine_in (reading t).listing)
-  read_formed = subst Formed (sym routine_is) reach.known.is_formed
+  read_formed = formed_by t (accepted t h)
 
   pub read_lines_lem : lines_of (routine_in (reading t).listing) ≡ lines_in t
-  read_lines_lem = ap lines_of routine_is ∙ reach.known.said
+  read_lines_lem = lines_by t (accepted t h)
 
   pub read_whole : reading t ≡ read_of (routine_in (reading t).listing)
-  read_whole = reach.is ∙ holds_read reach.state reach.routine reach.known.holds ∙ ap (λ (R : Routine). read_of R) (sym routine_is)
+  read_whole = whole_by t (accepted t h)
 
   pub read_text : text_of (routine_in (reading t).listing) ≡ t
-  unfolding text_of
-  read_text =
-      let below : Each (Below 128) (lines_in t) = subst (Each (Below 128)) read_lines_lem (lines_below (routine_in (reading t).listing) read_formed) in
-      ap text_of_lines read_lines_lem ∙ text_lines_lem (heads (cut lf t)) (each_writable (lines_in t) below) ∙ ended_text t (accepted t h).some (accepted t h).shut
+  read_text = text_by t (accepted t h)

@@ -20,7 +20,7 @@ use Rattle.document.specs.Reading.{taken, not_taken, made, with_mark, marked, is
 use Rattle.document.specs.Writing.{line_of_kind}
 use Rattle.data.proofs.Laws.Tests.{both}
 use Rattle.roundtrip.proofs.Laws.Tests.{not_done}
-use Rattle.roundtrip.proofs.Laws.Formed.{Made}
+use Rattle.roundtrip.specs.Made.{Made}
 use Rattle.roundtrip.proofs.Laws.Growing.{more, size_more, rands_more, pubs_more, outputs_more}
 use Rattle.roundtrip.proofs.Laws.Growing.{marking, size_marking, rands_marking, pubs_marking, outputs_marking}
 

@@ -25,7 +25,8 @@ use Rattle.document.specs.Writing.{line_of_kind, wire_line, wire_lines, out_line
 use Rattle.roundtrip.specs.Texts.{read_of}
 use Rattle.roundtrip.proofs.Laws.Tests.{tally_none}
 use Rattle.roundtrip.proofs.Laws.LineTexts.{texts, text_some, text_last}
-use Rattle.roundtrip.proofs.Laws.Formed.{Formed, Made, fits_place, made_earlier, made_line, wire_fits, wire_made, lines_below, each_writable, text_short}
+use Rattle.roundtrip.specs.Made.{Made}
+use Rattle.roundtrip.proofs.Laws.Formed.{Formed, fits_place, made_earlier, made_line, wire_fits, wire_made, lines_below, each_writable, text_short}
 use Rattle.roundtrip.proofs.Laws.Growing.{with_wires, more, size_more, more_old, more_new}
 use Rattle.roundtrip.proofs.Laws.Growing.{marking, size_marking, marking_other, marking_here, outputs_marking}
 use Rattle.roundtrip.proofs.Laws.States.{StandsFor, fresh, holds_made, holds_marked}

@@ -4,7 +4,6 @@ use mathlib.Core.Bool.{true}
 use mathlib.Core.Path.{◌≡◌, sym, ap, ◌∙◌}
 use Prim.Native.Nat.{ℕ, ◌+◌}
 use native.Mathlib.Omega.{arith}
-use borrow.Author.Tests.{not-true, not-false}
 use borrow.Author.Rules.{rules}
 use lib.ListN.{length}
 use Rattle.data.proofs.Laws.Placing.{rank_fits, may_add_room, may_add_low, added, not_added}
@@ -15,21 +14,21 @@ use Rattle.data.specs.declared.Outcome.TheVariants.{Done}
 use Rattle.data.proofs.ProbeSet.add.Goals as goal
 
 pub returns-then-not-may_add : goal.returns-then-not-may_add
-returns-then-not-may_add c = let s = c in not_added s.args.self s.args.w (sym c.may_add.ensures ∙ not-true _ c.if-not-may_add.true-raw)
+returns-then-not-may_add c = let s = c in not_added s.args.self s.args.w (sym c.may_add.ensures ∙ c.if-not-may_add.true)
 
 pub rank_of-k-requires : goal.rank_of-k-requires
 rank_of-k-requires c = let s = c in
-    let may : may_add s.args.self s.args.w ≡ true = sym c.may_add.ensures ∙ not-false _ c.if-not-may_add.false-raw in
+    let may : may_add s.args.self s.args.w ≡ true = sym c.may_add.ensures ∙ c.if-not-may_add.false in
     omega (arith, may_add_room s.args.self s.args.w may)
 
 pub overflow_cast-w : goal.overflow_cast-w
 overflow_cast-w c = let s = c in
-    let may : may_add s.args.self s.args.w ≡ true = sym c.may_add.ensures ∙ not-false _ c.if-not-may_add.false-raw in
+    let may : may_add s.args.self s.args.w ≡ true = sym c.may_add.ensures ∙ c.if-not-may_add.false in
     let low = may_add_low s.args.self s.args.w may in search rules
 
 pub places_with-requires : goal.places_with-requires
 places_with-requires c = let s = c in
-    let may : may_add s.args.self s.args.w ≡ true = sym c.may_add.ensures ∙ not-false _ c.if-not-may_add.false-raw in
+    let may : may_add s.args.self s.args.w ≡ true = sym c.may_add.ensures ∙ c.if-not-may_add.false in
     let l : length s.args.self.places ≡ 4 = search rules in
     let room = may_add_room s.args.self s.args.w may in
     let k = rank_fits s.args.w s.args.self.places s.args.self.len (omega arith) in
@@ -37,12 +36,12 @@ places_with-requires c = let s = c in
 
 pub overflow_add-set : goal.overflow_add-set
 overflow_add-set c = let s = c in
-    let may : may_add s.args.self s.args.w ≡ true = sym c.may_add.ensures ∙ not-false _ c.if-not-may_add.false-raw in
+    let may : may_add s.args.self s.args.w ≡ true = sym c.may_add.ensures ∙ c.if-not-may_add.false in
     let room = may_add_room s.args.self s.args.w may in search rules
 
 pub returns : goal.returns
 returns c = let s = c in
-    let may : may_add s.args.self s.args.w ≡ true = sym c.may_add.ensures ∙ not-false _ c.if-not-may_add.false-raw in
+    let may : may_add s.args.self s.args.w ≡ true = sym c.may_add.ensures ∙ c.if-not-may_add.false in
     let l : length s.args.self.places ≡ 4 = search rules in
     ap {B = Added} (λ (ps : List ℕ). record { outcome = Done; set = record { places = ps; len = s.args.self.len + 1 } })
     (c.places_with.ensures ∙ ap (λ (k : ℕ). places_with s.args.self.places s.args.self.len k s.args.w) c.rank_of-k.ensures)

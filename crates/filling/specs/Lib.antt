@@ -1,0 +1,2 @@
+-- What is stored of a read.
+pub mod Stored
