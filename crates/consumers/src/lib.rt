@@ -18,6 +18,7 @@ fn count_one(counts: [u8; 128], a: usize) -> [u8; 128]
 }
 
 // One more at both places; a consumer that names an operand twice counts once.
+#[tactic(auto, using(crate::proofs::Laws::Consumers::bumped_other), unfolding(crate::specs::Consumers::bumped_two))]
 fn count_two(counts: [u8; 128], a: usize, b: usize) -> [u8; 128]
     requires { (a < 128) × (b < 128) × Spare counts }
     ensures { result ≡ bumped_two a b counts }

@@ -112,6 +112,7 @@ pub fn is_earlier(w: usize, k: Kind, a: usize, b: usize) -> bool
 }
 
 // 8: the ceilings leave room for one more wire of this kind.
+#[tactic(auto, using(crate::proofs::Laws::no_wire, crate::proofs::Laws::no_rand, crate::proofs::Laws::no_pub, crate::proofs::Laws::some_room))]
 pub fn has_room(st: State, k: Kind) -> bool
     requires { UnderCeilings st }
     ensures { result ≡ has_room st k }

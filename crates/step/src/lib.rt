@@ -47,6 +47,7 @@ fn pad_by_one(w: usize, r: usize, probe: [bool; 128], leaf: [bool; 128], counts:
 }
 
 // The step of an xor with these operands: by the lower one, or else by the higher one.
+#[tactic(auto, using(crate::proofs::Laws::Next::pad_same, crate::proofs::Laws::Next::pad_low, crate::proofs::Laws::Next::pad_high))]
 fn pad_by_two(
     w: usize,
     a: usize,
