@@ -29,15 +29,8 @@ fn show_added(out: &mut impl Write, set: ProbeSet, w: usize) -> io::Result<Probe
     Ok(back)
 }
 
-// Up to four wires, one already there, one above 127, a fifth; and sets that no building gives.
-fn show_additions(out: &mut impl Write) -> io::Result<()> {
-    let a = show_added(out, ProbeSet::empty(), 3)?;
-    let b = show_added(out, a, 1)?;
-    let c = show_added(out, b, 3)?;
-    let d = show_added(out, c, 128)?;
-    let e = show_added(out, d, 127)?;
-    let f = show_added(out, e, 2)?;
-    show_added(out, f, 5)?;
+// Sets that no building gives.
+fn show_unbuilt(out: &mut impl Write) -> io::Result<()> {
     show_added(
         out,
         ProbeSet {
@@ -71,6 +64,18 @@ fn show_additions(out: &mut impl Write) -> io::Result<()> {
         3,
     )?;
     Ok(())
+}
+
+// Up to four wires, one already there, one above 127, a fifth; and sets that no building gives.
+fn show_additions(out: &mut impl Write) -> io::Result<()> {
+    let a = show_added(out, ProbeSet::empty(), 3)?;
+    let b = show_added(out, a, 1)?;
+    let c = show_added(out, b, 3)?;
+    let d = show_added(out, c, 128)?;
+    let e = show_added(out, d, 127)?;
+    let f = show_added(out, e, 2)?;
+    show_added(out, f, 5)?;
+    show_unbuilt(out)
 }
 
 // ---- one set
