@@ -5,8 +5,8 @@ use Rattle.data.specs.ProbeSets.{held, ascending}
 use Rattle.data.specs.declared.ProbeSet.{ProbeSet}
 use Rattle.data.specs.declared.Wire.{Wire}
 use Rattle.data.specs.declared.Shape.{Shape}
-use Rattle.data.specs.declared.Outcome.{Outcome}
-use Rattle.data.specs.declared.Outcome.TheVariants.{Done, Refused}
+use Rattle.data.specs.Refusals.{Outcome}
+use Rattle.std.specs.Prelude.{Ok, Err}
 use Rattle.data.specs.declared.Refusal.TheVariants as No
 use Rattle.document.specs.Routine.{records_fit}
 use Rattle.document.specs.Judgements.{set_refusal}
@@ -28,4 +28,4 @@ pub record Accepted (σ : Shape) (ws : List Wire) (t : ℕ) (set : ProbeSet) : T
 
 -- 7.17, 7.22: what becomes of a call on one set: the refusal of the first test that fails, or none
 unfoldable pub checked : Shape → List Wire → ℕ → ProbeSet → Outcome
-checked σ ws t set = lent σ ws (Refused No.Records) (λ R. set_refusal R t set Refused Done)
+checked σ ws t set = lent σ ws (Err No.Records) (λ R. set_refusal R t set Err (Ok tt))

@@ -5,7 +5,7 @@ ghost use Rattle.std.specs.Prelude.{◌≡◌, ◌≤◌, ltb, take};
 ghost use Rattle.data.specs.Basics.{each};
 ghost use Rattle.asking.specs.Checks.{order_in, probes_in, checked};
 
-use data::{Listing, Outcome, ProbeSet, Refusal};
+use data::{Listing, ProbeSet, Refusal};
 
 // The order is 1 to 4 and below D.
 pub fn order_fits(d: usize, t: usize) -> bool
@@ -49,17 +49,17 @@ fn probes_fit(set: ProbeSet, n: usize, t: usize) -> bool
 }
 
 // The tests of a call on one set, in their order: the first refusal, or none.
-pub fn check_set(listing: Listing, t: usize, set: ProbeSet) -> Outcome
+pub fn check_set(listing: Listing, t: usize, set: ProbeSet) -> Result<(), Refusal>
     ensures { result ≡ checked listing.shape listing.wires t set }
 {
     if !records::records_fit(listing) {
-        return Outcome::Refused(Refusal::Records);
+        return Err(Refusal::Records);
     }
     if !order_fits(listing.shape.d, t) {
-        return Outcome::Refused(Refusal::Order);
+        return Err(Refusal::Order);
     }
     if !probes_fit(set, listing.shape.n, t) {
-        return Outcome::Refused(Refusal::Probes);
+        return Err(Refusal::Probes);
     }
-    Outcome::Done
+    Ok(())
 }

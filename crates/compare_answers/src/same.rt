@@ -1,9 +1,7 @@
 // Whether an answer of the product is the other one.
 use compare_lines::{splitting, wires};
 use compare_rules::{adding, judging, padding};
-use data::{
-    Added, Filled, Judged, Needed, Outcome, Padded, ProbeSet, Read, Refusal, Shape, Step, Verdict,
-};
+use data::{Added, Filled, Judged, Needed, Padded, ProbeSet, Read, Refusal, Shape, Step, Verdict};
 
 // The number of a refusal in the table, said here again: the product's own is one of the things compared.
 fn number_of(f: Refusal) -> u64 {
@@ -28,10 +26,10 @@ fn number_of(f: Refusal) -> u64 {
 }
 
 // 0 where the call did what was asked, or the number of the refusal.
-pub fn number(o: Outcome) -> u64 {
+pub fn number(o: Result<(), Refusal>) -> u64 {
     match o {
-        Outcome::Done => 0,
-        Outcome::Refused(f) => number_of(f),
+        Ok(()) => 0,
+        Err(f) => number_of(f),
     }
 }
 

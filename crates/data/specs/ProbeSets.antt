@@ -2,7 +2,7 @@
 use Rattle.std.specs.Prelude.{◌≡◌, Bool, true, not, ◌&&◌, cond, List, [], ◌∷◌, ◌++◌, ℕ, suc, ◌+◌, ◌≤◌, ◌<◌, ltb, leb, length, take, drop, replicate}
 use Rattle.data.specs.Basics.{elem, each, whole_basics}
 use Rattle.data.specs.declared.Refusal.TheVariants as No
-use Rattle.data.specs.declared.Outcome.TheVariants.{Done, Refused}
+use Rattle.std.specs.Prelude.{Ok, Err}
 use Rattle.data.specs.declared.ProbeSet.{ProbeSet}
 use Rattle.data.specs.declared.Added.{Added}
 
@@ -37,8 +37,8 @@ insert w (p ∷ ps) = cond (ltb w p) (w ∷ p ∷ ps) (p ∷ insert w ps)
 unfoldable pub adding : ProbeSet → ℕ → Added
 adding s w =
     cond (may_add s w)
-    (record { outcome = Done; set = record { places = insert w (held s) ++ drop (s.len + 1) s.places; len = s.len + 1 } })
-    (record { outcome = Refused No.Probes; set = s })
+    (record { outcome = Ok tt; set = record { places = insert w (held s) ++ drop (s.len + 1) s.places; len = s.len + 1 } })
+    (record { outcome = Err No.Probes; set = s })
 
 -- the definitions above, to unfold at once where a proof computes
 unfoldable pub whole_sets : Unit {0}

@@ -1,9 +1,7 @@
 -- The numbers of the refusals (section 7 of docs/SPECIFICATION.md).
-use Rattle.std.specs.Prelude.{ℕ}
+use Rattle.std.specs.Prelude.{ℕ, ⊤, Result, Ok, Err}
 use Rattle.data.specs.declared.Refusal.{Refusal}
 use Rattle.data.specs.declared.Refusal.TheVariants as R
-use Rattle.data.specs.declared.Outcome.{Outcome}
-use Rattle.data.specs.declared.Outcome.TheVariants.{Done, Refused}
 
 -- 7.1 to 7.16: the number of a refusal
 abbrev pub number_of : Refusal → ℕ
@@ -40,7 +38,11 @@ number_of R.Buffer = 15
 -- 7.16: too many steps for their list
 number_of R.Steps = 16
 
+-- 1.36: an outcome is done, or a refusal
+abbrev pub Outcome : Type 0
+Outcome = Result ⊤ Refusal
+
 -- 7.28: an outcome in numbers: that of its refusal, or 0 where the call is done
 abbrev pub outcome_number : Outcome → ℕ
-outcome_number Done = 0
-outcome_number (Refused f) = number_of f
+outcome_number (Ok u) = 0
+outcome_number (Err f) = number_of f

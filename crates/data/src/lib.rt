@@ -19,7 +19,7 @@ pub const SPACE: u8 = 32;
 pub const ZERO: u8 = 48;
 
 // 1.24: what makes a wire.
-#[derive(Clone, Copy)]
+#[derive(Clone, Copy, PartialEq, Eq)]
 pub enum Kind {
     Share,
     Rand,
@@ -30,7 +30,7 @@ pub enum Kind {
 }
 
 // 1.24: a wire record has its kind, two operands (of a share: secret and share number) and the output mark.
-#[derive(Clone, Copy)]
+#[derive(Clone, Copy, PartialEq, Eq)]
 pub struct Wire {
     pub kind: Kind,
     pub a: u8,
@@ -39,7 +39,7 @@ pub struct Wire {
 }
 
 // 6.1: the sizes of a routine, S secrets of D shares each and n wires.
-#[derive(Clone, Copy)]
+#[derive(Clone, Copy, PartialEq, Eq)]
 pub struct Shape {
     pub s: usize,
     pub d: usize,
@@ -47,21 +47,21 @@ pub struct Shape {
 }
 
 // 6.2: a routine by value has its sizes, and its records, of which the first n matter.
-#[derive(Clone, Copy)]
+#[derive(Clone, Copy, PartialEq, Eq)]
 pub struct Listing {
     pub shape: Shape,
     pub wires: [Wire; 128],
 }
 
 // 1.6: a field read as a number, decimal, of one to three digits.
-#[derive(Clone, Copy)]
+#[derive(Clone, Copy, PartialEq, Eq)]
 pub enum Number {
     Bad,
     Is(usize),
 }
 
 // 1.8: a field read as a word.
-#[derive(Clone, Copy)]
+#[derive(Clone, Copy, PartialEq, Eq)]
 pub enum Word {
     Other,
     Routine,
@@ -74,7 +74,7 @@ pub enum Word {
 }
 
 // 1.9, 1.10: a line by its form, its word and its numbers, or none that a routine text has.
-#[derive(Clone, Copy)]
+#[derive(Clone, Copy, PartialEq, Eq)]
 pub enum Line {
     Bad,
     Head(usize, usize),
@@ -87,7 +87,7 @@ pub enum Line {
 }
 
 // 7.1 to 7.16: the refusals, in the order of their numbers.
-#[derive(Clone, Copy)]
+#[derive(Clone, Copy, PartialEq, Eq)]
 pub enum Refusal {
     Length,
     Byte,
@@ -107,15 +107,8 @@ pub enum Refusal {
     Steps,
 }
 
-// 1.36: what became of a call that has nothing to count.
-#[derive(Clone, Copy)]
-pub enum Outcome {
-    Done,
-    Refused(Refusal),
-}
-
 // 1.41: what was read so far, S, D, n, how many randoms, publics and outputs, one above the last output (0 before any), and the records.
-#[derive(Clone, Copy)]
+#[derive(Clone, Copy, PartialEq, Eq)]
 pub struct State {
     pub s: usize,
     pub d: usize,
@@ -128,89 +121,89 @@ pub struct State {
 }
 
 // 1.41: what became of one line, and the state after it.
-#[derive(Clone, Copy)]
+#[derive(Clone, Copy, PartialEq, Eq)]
 pub struct Taken {
-    pub outcome: Outcome,
+    pub outcome: Result<(), Refusal>,
     pub state: State,
 }
 
 // 1.36: a read routine, or a refusal with the line at fault.
-#[derive(Clone, Copy)]
+#[derive(Clone, Copy, PartialEq, Eq)]
 pub struct Read {
-    pub outcome: Outcome,
+    pub outcome: Result<(), Refusal>,
     pub line: usize,
     pub listing: Listing,
 }
 
 // 6.7: what became of a read into a lent list, which has the records.
-#[derive(Clone, Copy)]
+#[derive(Clone, Copy, PartialEq, Eq)]
 pub struct Filled {
-    pub outcome: Outcome,
+    pub outcome: Result<(), Refusal>,
     pub line: usize,
     pub shape: Shape,
 }
 
 // 6.11: what became of a writing, and how many bytes it wrote.
-#[derive(Clone, Copy)]
+#[derive(Clone, Copy, PartialEq, Eq)]
 pub struct Written {
-    pub outcome: Outcome,
+    pub outcome: Result<(), Refusal>,
     pub len: usize,
 }
 
 // 2.7: what became of a run, and how many bytes it wrote.
-#[derive(Clone, Copy)]
+#[derive(Clone, Copy, PartialEq, Eq)]
 pub struct Ran {
-    pub outcome: Outcome,
+    pub outcome: Result<(), Refusal>,
     pub len: usize,
 }
 
 // 4.1: up to four wire numbers, in the first `len` places.
-#[derive(Clone, Copy)]
+#[derive(Clone, Copy, PartialEq, Eq)]
 pub struct ProbeSet {
     pub places: [u8; 4],
     pub len: usize,
 }
 
 // 4.5: a set handed back by an addition, with what became of the addition.
-#[derive(Clone, Copy)]
+#[derive(Clone, Copy, PartialEq, Eq)]
 pub struct Added {
-    pub outcome: Outcome,
+    pub outcome: Result<(), Refusal>,
     pub set: ProbeSet,
 }
 
 // 3.19: a padding step, wire w made a leaf by its operand r.
-#[derive(Clone, Copy)]
+#[derive(Clone, Copy, PartialEq, Eq)]
 pub struct Step {
     pub w: u8,
     pub r: u8,
 }
 
 // 5.22, 5.23: the needed shares of one set, bit k for wire k; undecided says that the set is plain-open at the order.
-#[derive(Clone, Copy)]
+#[derive(Clone, Copy, PartialEq, Eq)]
 pub struct Needed {
-    pub outcome: Outcome,
+    pub outcome: Result<(), Refusal>,
     pub shares: u64,
     pub undecided: bool,
 }
 
 // 5.22, 5.25: the steps of one set, in the first `len` pairs; the others are 0, 0.
-#[derive(Clone, Copy)]
+#[derive(Clone, Copy, PartialEq, Eq)]
 pub struct Padded {
-    pub outcome: Outcome,
+    pub outcome: Result<(), Refusal>,
     pub steps: [Step; 128],
     pub len: usize,
     pub undecided: bool,
 }
 
 // 5.3, 5.4: which judgement is asked for.
-#[derive(Clone, Copy)]
+#[derive(Clone, Copy, PartialEq, Eq)]
 pub enum Which {
     Plain,
     Strong,
 }
 
 // 5.13, 5.14: the verdict of a judgement, with the count of sets judged, the open one included.
-#[derive(Clone, Copy)]
+#[derive(Clone, Copy, PartialEq, Eq)]
 pub enum Verdict {
     Pass(u64),
     Open(u64),
@@ -218,7 +211,7 @@ pub enum Verdict {
 }
 
 // 5.14, 5.15: a judgement's answer; the set is empty unless the verdict is open.
-#[derive(Clone, Copy)]
+#[derive(Clone, Copy, PartialEq, Eq)]
 pub struct Judged {
     pub verdict: Verdict,
     pub set: ProbeSet,
@@ -369,7 +362,7 @@ impl ProbeSet {
         if !may_add(self, w) {
             let set = ProbeSet { places, len };
             return Added {
-                outcome: Outcome::Refused(Refusal::Probes),
+                outcome: Err(Refusal::Probes),
                 set,
             };
         }
@@ -379,7 +372,7 @@ impl ProbeSet {
             len: len + 1,
         };
         Added {
-            outcome: Outcome::Done,
+            outcome: Ok(()),
             set,
         }
     }

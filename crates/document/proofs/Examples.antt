@@ -8,7 +8,7 @@ use Rattle.document.specs.Judgements.{plain, strong, passed, opened, judged, nee
 use Rattle.document.specs.Starts.{pattern_count, draw_count, count_after, whole_starts}
 use Rattle.data.specs.declared.Kind.TheVariants.{Share, Rand, Pub, Xor, And, Not}
 use Rattle.data.specs.declared.Wire.{Wire}
-use Rattle.data.specs.declared.Outcome.TheVariants.{Done}
+use Rattle.std.specs.Prelude.{Ok}
 use Rattle.data.specs.declared.Step.{Step}
 use Rattle.data.specs.declared.Judged.{Judged}
 
@@ -81,7 +81,7 @@ pub data Claim : Type 0 where
 -- the claim is so
 abbrev pub Holds : Claim → Type 0
 Holds (needs R t ps shares opens ss) =
-    (needing R t (set_of ps) ≡ record { outcome = Done; shares = shares; undecided = opens }) × (steps R ps ≡ ss)
+    (needing R t (set_of ps) ≡ record { outcome = Ok tt; shares = shares; undecided = opens }) × (steps R ps ≡ ss)
 Holds (judges R t answer) = judged plain R t ≡ answer
 
 -- all of these claims are so

@@ -17,8 +17,8 @@ use Rattle.document.specs.Lent.{read_for, filled_with, lent_read, lent_read_into
 use Rattle.document.specs.Lent.{lent_needing, lent_padding, lent_judged}
 use Rattle.data.proofs.Laws.Tests.{cond_cases, cond_both, cond_of, cond_and}
 use Rattle.data.specs.declared.Refusal.TheVariants as No
-use Rattle.data.specs.declared.Outcome.{Outcome}
-use Rattle.data.specs.declared.Outcome.TheVariants.{Done, Refused}
+use Rattle.data.specs.Refusals.{Outcome}
+use Rattle.std.specs.Prelude.{Ok, Err}
 use Rattle.data.specs.declared.Verdict.TheVariants as Says
 use Rattle.data.specs.declared.Verdict.{Verdict}
 use Rattle.data.specs.declared.Kind.{Kind}
@@ -133,8 +133,8 @@ lines_nothing k st [] = λ h. absurd (h refl)
 lines_nothing k st (l ∷ ls) = go (take_line st l).outcome (read_lines (k + 1) (take_line st l).state ls) (lines_nothing (k + 1) (take_line st l).state ls)
   where
     go : (o : Outcome) (rest : Read) → ReadsNothing rest → ReadsNothing (onward o k rest)
-    go Done rest r = r
-    go (Refused f) rest r = λ _. (refl, refl)
+    go (Ok u) rest r = r
+    go (Err f) rest r = λ _. (refl, refl)
 
 header_nothing : (l : Line) (ls : List Line) → ReadsNothing (from_header l ls)
 unfolding from_header
@@ -171,8 +171,8 @@ refused_read text list h =
     )
   where
     go : (o : Outcome) (l : Listing) → outcome_number o ≢ 0 → filled_with o l list ≡ list
-    go Done l h = absurd (h refl)
-    go (Refused f) l h = refl
+    go (Ok u) l h = absurd (h refl)
+    go (Err f) l h = refl
 
 -- ---- writing and running
 

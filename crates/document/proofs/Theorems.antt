@@ -33,7 +33,7 @@ use Rattle.document.proofs.Laws.Draws as Draws
 use Rattle.document.proofs.Laws.Printed.{cut_same}
 use Rattle.document.proofs.Laws.Worth.{printed_pass}
 use Rattle.data.specs.declared.Refusal.TheVariants as No
-use Rattle.data.specs.declared.Outcome.TheVariants.{Done}
+use Rattle.std.specs.Prelude.{Ok}
 use Rattle.data.specs.declared.Verdict.TheVariants as Says
 use Rattle.data.specs.declared.Step.{Step}
 use Rattle.data.specs.declared.Which.TheVariants as Ask
@@ -220,7 +220,7 @@ lent_pass_keeps σ ws t c e =
 
 -- 9.26: of what the desk prints: a line `plain t pass c` is printed only of such a routine
 pub printed_pass_keeps : (text : List ℕ) (t c : ℕ) → HasLine (pass_line t c) (desk_prints text)
-    → ((reading text).outcome ≡ Done) × PassesPlain (routine_in (reading text).listing) t c
+    → ((reading text).outcome ≡ Ok tt) × PassesPlain (routine_in (reading text).listing) t c
 printed_pass_keeps text t c h = let p = printed_pass t c text h in (p.0, pass_worth (routine_in (reading text).listing) t c p.1)
 
 -- ---- what a step promises

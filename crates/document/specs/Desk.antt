@@ -6,8 +6,8 @@ use Rattle.document.specs.Reading.{reading, routine_in}
 use Rattle.data.specs.ProbeSets.{held}
 use Rattle.document.specs.Judgements.{plain, strong, judged}
 use Rattle.data.specs.Refusals.{number_of}
-use Rattle.data.specs.declared.Outcome.{Outcome}
-use Rattle.data.specs.declared.Outcome.TheVariants.{Done, Refused}
+use Rattle.data.specs.Refusals.{Outcome}
+use Rattle.std.specs.Prelude.{Ok, Err}
 use Rattle.data.specs.declared.Read.{Read}
 use Rattle.data.specs.declared.Verdict.{Verdict}
 use Rattle.data.specs.declared.Verdict.TheVariants as Says
@@ -67,8 +67,8 @@ routine_lines R = order_lines R (min 4 (R.D - 1)) 1
 
 -- 8.6, 8.8: the lines of an accepted text, or the one of a refused one
 unfoldable pub text_lines : Outcome → Read → List ℕ
-text_lines Done r = routine_lines (routine_in r.listing)
-text_lines (Refused f) r = printed_line (refused_word ∷ printed (number_of f) ∷ printed r.line ∷ [])
+text_lines (Ok u) r = routine_lines (routine_in r.listing)
+text_lines (Err f) r = printed_line (refused_word ∷ printed (number_of f) ∷ printed r.line ∷ [])
 
 -- 8.5 to 8.8: what is printed of a text
 unfoldable pub desk_prints : List ℕ → List ℕ

@@ -7,7 +7,7 @@ use Rattle.data.specs.ProbeSets.{held, ascending, empty_set, set_of, whole_sets}
 use Rattle.document.specs.Padding.{steps, needed_shares, needed_of, whole_rule}
 use Rattle.data.specs.declared.Refusal.{Refusal}
 use Rattle.data.specs.declared.Refusal.TheVariants as No
-use Rattle.data.specs.declared.Outcome.TheVariants.{Done, Refused}
+use Rattle.std.specs.Prelude.{Ok, Err}
 use Rattle.data.specs.declared.Verdict.{Verdict}
 use Rattle.data.specs.declared.Verdict.TheVariants as Says
 use Rattle.data.specs.declared.ProbeSet.{ProbeSet}
@@ -113,11 +113,11 @@ set_refusal R t s refuse answer =
 
 -- 7.26: refused, the word is 0 and the flag is false
 abbrev pub needed_not : Refusal → Needed
-needed_not f = record { outcome = Refused f; shares = 0; undecided = false }
+needed_not f = record { outcome = Err f; shares = 0; undecided = false }
 
 -- 5.22, 5.23: the word of needed shares, and whether the set is open by the plain judgement
 unfoldable pub needing : Routine → ℕ → ProbeSet → Needed
-needing R t s = set_refusal R t s needed_not (record { outcome = Done; shares = needed_shares R (held s); undecided = is_open plain R t (held s) })
+needing R t s = set_refusal R t s needed_not (record { outcome = Ok tt; shares = needed_shares R (held s); undecided = is_open plain R t (held s) })
 
 -- 5.25: the pair that stands behind the length
 abbrev pub no_step : Step
@@ -125,11 +125,11 @@ no_step = record { w = 0; r = 0 }
 
 -- 7.26: refused, the length is 0, all pairs are (0, 0) and the flag is false
 abbrev pub padded_not : Refusal → Padded
-padded_not f = record { outcome = Refused f; steps = replicate 128 no_step; len = 0; undecided = false }
+padded_not f = record { outcome = Err f; steps = replicate 128 no_step; len = 0; undecided = false }
 
 -- 5.25: the steps as an array of 128 pairs and a length
 unfoldable pub step_list : List Step → Bool → Padded
-step_list ss opens = record { outcome = Done; steps = take 128 (ss ++ replicate 128 no_step); len = length ss; undecided = opens }
+step_list ss opens = record { outcome = Ok tt; steps = take 128 (ss ++ replicate 128 no_step); len = length ss; undecided = opens }
 
 -- 5.22, 5.23, 7.16, 7.22: the steps and the same flag; 16 where there are more than 128 steps
 unfoldable pub padding : Routine → ℕ → ProbeSet → Padded

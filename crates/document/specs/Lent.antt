@@ -10,9 +10,9 @@ use Rattle.data.specs.declared.Shape.{Shape}
 use Rattle.data.specs.declared.Listing.{Listing}
 use Rattle.data.specs.declared.Read.{Read}
 use Rattle.data.specs.declared.Filled.{Filled}
-use Rattle.data.specs.declared.Outcome.{Outcome}
+use Rattle.data.specs.Refusals.{Outcome}
 use Rattle.data.specs.declared.Refusal.TheVariants as No
-use Rattle.data.specs.declared.Outcome.TheVariants.{Done, Refused}
+use Rattle.std.specs.Prelude.{Ok, Err}
 use Rattle.data.specs.declared.ProbeSet.{ProbeSet}
 use Rattle.data.specs.declared.Written.{Written}
 use Rattle.data.specs.declared.Ran.{Ran}
@@ -32,8 +32,8 @@ filled r = record { outcome = r.outcome; line = r.line; shape = r.listing.shape 
 
 -- 6.9, 6.13: an accepted read puts its n records at the front of the list; a refused one changes nothing
 abbrev pub filled_with : Outcome → Listing → List Wire → List Wire
-filled_with Done l list = take l.shape.n l.wires ++ drop l.shape.n list
-filled_with (Refused f) l list = list
+filled_with (Ok u) l list = take l.shape.n l.wires ++ drop l.shape.n list
+filled_with (Err f) l list = list
 
 -- 6.7: the answer of a read into a lent list
 unfoldable pub lent_read : List ℕ → List Wire → Filled
@@ -51,7 +51,7 @@ lent σ ws refused answer = cond (leb σ.n (length ws)) (answer (routine_of σ w
 
 -- 6.5: `write` over a lent list
 unfoldable pub lent_written : Shape → List Wire → List ℕ → Written
-lent_written σ ws buffer = lent σ ws (record { outcome = Refused No.Records; len = 0 }) (λ R. written R buffer)
+lent_written σ ws buffer = lent σ ws (record { outcome = Err No.Records; len = 0 }) (λ R. written R buffer)
 
 -- 6.11 to 6.13: the buffer after it
 unfoldable pub lent_written_into : Shape → List Wire → List ℕ → List ℕ
@@ -59,7 +59,7 @@ lent_written_into σ ws buffer = lent σ ws buffer (λ R. written_into R buffer)
 
 -- 6.5: `run` over a lent list
 unfoldable pub lent_ran : Shape → List Wire → ℕ → ℕ → ℕ → List ℕ → Ran
-lent_ran σ ws shares randoms publics buffer = lent σ ws (record { outcome = Refused No.Records; len = 0 }) (λ R. ran R shares randoms publics buffer)
+lent_ran σ ws shares randoms publics buffer = lent σ ws (record { outcome = Err No.Records; len = 0 }) (λ R. ran R shares randoms publics buffer)
 
 -- 2.7, 6.12, 6.13: the buffer after it
 unfoldable pub lent_ran_into : Shape → List Wire → ℕ → ℕ → ℕ → List ℕ → List ℕ

@@ -10,8 +10,8 @@ use Rattle.data.specs.declared.Line.{Line}
 use Rattle.data.specs.declared.Line.TheVariants as L
 use Rattle.data.specs.declared.Refusal.{Refusal}
 use Rattle.data.specs.declared.Refusal.TheVariants as No
-use Rattle.data.specs.declared.Outcome.{Outcome}
-use Rattle.data.specs.declared.Outcome.TheVariants.{Done, Refused}
+use Rattle.data.specs.Refusals.{Outcome}
+use Rattle.std.specs.Prelude.{Ok, Err}
 use Rattle.data.specs.declared.State.{State}
 use Rattle.data.specs.declared.Taken.{Taken}
 use Rattle.data.specs.declared.Read.{Read}
@@ -21,10 +21,10 @@ use Rattle.data.specs.declared.Listing.{Listing}
 -- ---- one line
 
 abbrev pub taken : State → Taken
-taken st = record { outcome = Done; state = st }
+taken st = record { outcome = Ok tt; state = st }
 
 abbrev pub not_taken : Refusal → State → Taken
-not_taken f st = record { outcome = Refused f; state = st }
+not_taken f st = record { outcome = Err f; state = st }
 
 -- 1.16, 1.26, 1.27: the state with the next wire made
 unfoldable pub made : State → Kind → ℕ → ℕ → State
@@ -105,16 +105,16 @@ nothing = record { shape = record { s = 0; d = 0; n = 0 }; wires = blanks }
 
 -- 1.36, 1.46: refusal f, at line k
 abbrev pub not_read : Refusal → ℕ → Read
-not_read f k = record { outcome = Refused f; line = k; listing = nothing }
+not_read f k = record { outcome = Err f; line = k; listing = nothing }
 
 -- 1.36, 1.37: what is answered of an accepted text
 abbrev pub read_all : State → Read
-read_all st = record { outcome = Done; line = 0; listing = record { shape = record { s = st.s; d = st.d; n = st.n }; wires = st.wires } }
+read_all st = record { outcome = Ok tt; line = 0; listing = record { shape = record { s = st.s; d = st.d; n = st.n }; wires = st.wires } }
 
 -- 1.41, 1.46: the first line that fails ends the reading, with its number, counted from 1
 abbrev pub onward : Outcome → ℕ → Read → Read
-onward Done k rest = rest
-onward (Refused f) k rest = not_read f k
+onward (Ok u) k rest = rest
+onward (Err f) k rest = not_read f k
 
 -- 1.41: the lines from number k on
 unfoldable pub read_lines : ℕ → State → List Line → Read
@@ -178,6 +178,6 @@ whole_reading = tt
 -- 1.34: some accepted text gives these sizes and these first n records
 pub record CouldBeRead (σ : Shape) (ws : List Wire) : Type 0 where
   pub text : List ℕ
-  pub is_read : (reading text).outcome ≡ Done
+  pub is_read : (reading text).outcome ≡ Ok tt
   pub sizes : (reading text).listing.shape ≡ σ
   pub first : take σ.n (reading text).listing.wires ≡ take σ.n ws

@@ -6,7 +6,7 @@ use Rattle.data.specs.declared.Kind.{Kind}
 use Rattle.data.specs.declared.Kind.TheVariants.{Share, Rand, Pub, Xor, And, Not}
 use Rattle.data.specs.declared.Refusal.{Refusal}
 use Rattle.data.specs.declared.Refusal.TheVariants as No
-use Rattle.data.specs.declared.Outcome.TheVariants.{Done, Refused}
+use Rattle.std.specs.Prelude.{Ok, Err}
 use Rattle.data.specs.declared.Ran.{Ran}
 
 -- 2.9: a kind of value is the numbers below `many`, and what `xor`, `and` and `not` do to them
@@ -70,7 +70,7 @@ run_refusal R shares randoms publics buffer refuse answer =
 -- 2.7, 7.24: the answer has the length n, or 0 with a refusal
 unfoldable pub ran : Routine → ℕ → ℕ → ℕ → List ℕ → Ran
 ran R shares randoms publics buffer =
-    run_refusal R shares randoms publics buffer (λ f. record { outcome = Refused f; len = 0 }) (record { outcome = Done; len = size R })
+    run_refusal R shares randoms publics buffer (λ f. record { outcome = Err f; len = 0 }) (record { outcome = Ok tt; len = size R })
 
 -- 2.7, 6.12, 6.13: the buffer begins with the values then and keeps its later bytes; a refusal keeps all of it
 unfoldable pub ran_into : Routine → ℕ → ℕ → ℕ → List ℕ → List ℕ

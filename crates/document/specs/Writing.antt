@@ -8,7 +8,7 @@ use Rattle.data.specs.declared.Line.{Line}
 use Rattle.data.specs.declared.Line.TheVariants as L
 use Rattle.data.specs.declared.Refusal.{Refusal}
 use Rattle.data.specs.declared.Refusal.TheVariants as No
-use Rattle.data.specs.declared.Outcome.TheVariants.{Done, Refused}
+use Rattle.std.specs.Prelude.{Ok, Err}
 use Rattle.data.specs.declared.Written.{Written}
 
 -- 1.16, 1.48: the line that makes wire w, its operands in the order a, b; a share has none
@@ -49,7 +49,7 @@ write_refusal R buffer refuse answer =
 
 -- 6.11, 7.24: the answer has the length of the text, or 0 with a refusal
 unfoldable pub written : Routine → List ℕ → Written
-written R buffer = write_refusal R buffer (λ f. record { outcome = Refused f; len = 0 }) (record { outcome = Done; len = length (text_of R) })
+written R buffer = write_refusal R buffer (λ f. record { outcome = Err f; len = 0 }) (record { outcome = Ok tt; len = length (text_of R) })
 
 -- 6.11 to 6.13: the buffer begins with the text then and keeps its later bytes; a refusal keeps all of it
 unfoldable pub written_into : Routine → List ℕ → List ℕ

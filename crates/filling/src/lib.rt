@@ -4,14 +4,14 @@
 ghost use Rattle.std.specs.Prelude.{◌≡◌};
 ghost use Rattle.document.specs.Lent.{read_for, filled};
 
-use data::{Filled, Listing, Outcome, Read, Refusal, Shape, Wire};
+use data::{Filled, Listing, Read, Refusal, Shape, Wire};
 
 // 10, from the length of the list; then the text.
 pub fn read_for(text: &[u8], len: usize) -> Read
     ensures { result ≡ read_for text.now len }
 {
     if len < 128 {
-        let outcome = Outcome::Refused(Refusal::Lent);
+        let outcome = Err(Refusal::Lent);
         let shape = Shape { s: 0, d: 0, n: 0 };
         let wires = listing::blank_wires();
         let listing = Listing { shape, wires };

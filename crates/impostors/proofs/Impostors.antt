@@ -14,8 +14,8 @@ use Rattle.document.specs.Judgements.{Judgement, plain, strong, told, step_list}
 use Rattle.document.specs.Lent.{lent_read, lent_read_into, lent_written, lent_written_into, lent_ran, lent_ran_into, lent_needing, lent_padding, lent_judged}
 use Rattle.data.specs.declared.Judged.{Judged}
 use Rattle.data.specs.declared.Needed.{Needed}
-use Rattle.data.specs.declared.Outcome.{Outcome}
-use Rattle.data.specs.declared.Outcome.TheVariants.{Done}
+use Rattle.data.specs.Refusals.{Outcome}
+use Rattle.std.specs.Prelude.{Ok}
 use Rattle.data.specs.declared.Padded.{Padded}
 use Rattle.data.specs.declared.ProbeSet.{ProbeSet}
 use Rattle.data.specs.declared.Ran.{Ran}
@@ -80,7 +80,7 @@ abbrev pub NeedsAll : (Shape → List Wire → ℕ → ProbeSet → Needed) → 
 NeedsAll f = (σ : Shape) (list : List Wire) (t : ℕ) (set : ProbeSet) → f σ list t set ≡ lent_needing σ list t set
 
 module _ (f : Shape → List Wire → ℕ → ProbeSet → Needed) (meets : NeedsAll f) where
-  none : f (sized sum) sum.wires 1 (set_of (10 ∷ [])) ≡ record { outcome = Done; shares = 0; undecided = false }
+  none : f (sized sum) sum.wires 1 (set_of (10 ∷ [])) ≡ record { outcome = Ok tt; shares = 0; undecided = false }
   none = meets (sized sum) sum.wires 1 (set_of (10 ∷ [])) ∙ worked_needs.0
 
   -- it refuses everything, or nothing

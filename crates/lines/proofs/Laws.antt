@@ -17,7 +17,7 @@ use Rattle.document.specs.Reading.{take_line, not_read, read_all, onward, read_l
 use Rattle.data.specs.declared.Kind.TheVariants as K
 use Rattle.data.specs.declared.Line.{Line}
 use Rattle.data.specs.declared.Refusal.{Refusal}
-use Rattle.data.specs.declared.Outcome.TheVariants.{Done, Refused}
+use Rattle.std.specs.Prelude.{Ok, Err}
 use Rattle.data.specs.declared.State.{State}
 use Rattle.data.specs.declared.Taken.{Taken}
 use Rattle.document.proofs.Laws.Cuts.{cut_some}
@@ -92,10 +92,10 @@ module _ (k : ℕ) (st : State) (text : List ℕ) (at end : ℕ) (rest here : Li
       (sym (does ∙ ap (take_line st) (is ∙ ap line_of part)))
       ∙ ap (λ (l : List ℕ). onward r.outcome k (read_lines (k + 1) r.state (lines_in l))) (onto at end text rest left)
 
-  pub turn_on : r.outcome ≡ Done → read_lines (k + 1) r.state (lines_in (drop (at + end + 1) text)) ≡ read_lines k st (lines_in (drop at text))
+  pub turn_on : r.outcome ≡ Ok tt → read_lines (k + 1) r.state (lines_in (drop (at + end + 1) text)) ≡ read_lines k st (lines_in (drop at text))
   turn_on o = sym (turn ∙ rw o refl)
 
-  pub turn_no : {f : Refusal} → r.outcome ≡ Refused f → not_read f k ≡ read_lines k st (lines_in (drop at text))
+  pub turn_no : {f : Refusal} → r.outcome ≡ Err f → not_read f k ≡ read_lines k st (lines_in (drop at text))
   turn_no o = sym (turn ∙ rw o refl)
 
   pub turn_bounded : UnderCeilings st → UnderCeilings r.state

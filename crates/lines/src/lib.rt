@@ -8,13 +8,13 @@ ghost use Rattle.document.specs.Lines.{lines_in};
 ghost use Rattle.document.specs.Reading.{not_read, read_all, read_lines, share_records, begun, from_header};
 ghost use Rattle.state.specs.Ceilings.{UnderCeilings};
 
-use data::{Kind, LF, Line, Listing, Outcome, Read, Refusal, Shape, State, Wire};
+use data::{Kind, LF, Line, Listing, Read, Refusal, Shape, State, Wire};
 
 // Refusal f at line k.
 pub fn refuse(f: Refusal, k: usize) -> Read
     ensures { result ≡ not_read f k }
 {
-    let outcome = Outcome::Refused(f);
+    let outcome = Err(f);
     let shape = Shape { s: 0, d: 0, n: 0 };
     let wires = listing::blank_wires();
     let listing = Listing { shape, wires };
@@ -28,7 +28,7 @@ pub fn refuse(f: Refusal, k: usize) -> Read
 fn finish(st: State) -> Read
     ensures { result ≡ read_all st }
 {
-    let outcome = Outcome::Done;
+    let outcome = Ok(());
     let shape = Shape {
         s: st.s,
         d: st.d,
@@ -61,10 +61,10 @@ fn read_lines(text: &[u8], from: usize, start: State) -> Read
         let r = taking::take_line(st, l);
         let outcome = r.outcome;
         match outcome {
-            Outcome::Refused(f) => {
+            Err(f) => {
                 return refuse(f, k);
             }
-            Outcome::Done => {}
+            Ok(()) => {}
         }
         let next = r.state;
         st = next;

@@ -4,10 +4,9 @@
 ghost use Rattle.std.specs.Prelude.{◌≡◌, ◌-◌, ◌≤◌, min, length};
 ghost use Rattle.buffer.specs.Put.{Put};
 ghost use Rattle.document.specs.Desk.{text_lines};
-ghost use Rattle.data.specs.declared.Outcome.TheVariants.{Done};
 ghost use Rattle.report.specs.Reports.{report_room, Reported};
 
-use data::{Outcome, Read};
+use data::Read;
 
 // The bytes of a buffer for a report; 1,104 are the most that one has (report_room).
 pub const ROOM: usize = 2048;
@@ -24,16 +23,16 @@ fn orders(d: usize) -> usize
 
 // The lines of what was read, or of the refusal.
 fn put_read(got: Read, out: &mut [u8]) -> usize
-    requires { (got.outcome ≡ Done → got.listing.shape.n ≤ length got.listing.wires) × (report_room ≤ length out.old) }
+    requires { (got.outcome ≡ Ok tt → got.listing.shape.n ≤ length got.listing.wires) × (report_room ≤ length out.old) }
     ensures { Put out.old 0 (text_lines got.outcome got) result out.new }
 {
     let outcome = got.outcome;
     match outcome {
-        Outcome::Done => {
+        Ok(()) => {
             let listing = got.listing;
             answers::put_orders(listing, orders(listing.shape.d), out)
         }
-        Outcome::Refused(f) => printer::put_refused(f, got.line, 0, out),
+        Err(f) => printer::put_refused(f, got.line, 0, out),
     }
 }
 

@@ -2,7 +2,7 @@
 use Rattle.std.specs.Prelude.{◌≡◌, true, List, ◌↔◌, ℕ, ◌*◌, ◌≤◌, ◌<◌, length}
 use Rattle.std.proofs.Common.{sym, ap, subst, ◌∙◌}
 use Rattle.data.specs.declared.Wire.{Wire}
-use Rattle.data.specs.declared.Outcome.TheVariants.{Done}
+use Rattle.std.specs.Prelude.{Ok}
 use Rattle.data.specs.declared.Read.{Read}
 use Rattle.data.specs.declared.Shape.{Shape}
 use Rattle.document.specs.Routine.{Routine, size, well_formed, records_fit}
@@ -15,7 +15,7 @@ use Rattle.roundtrip.proofs.Laws.Written.{written_read}
 use Rattle.roundtrip.proofs.Laws.Records.{fit→read, read→fit}
 
 -- writing what was read gives the same text
-pub text_again : (t : List ℕ) → (reading t).outcome ≡ Done → text_of (routine_in (reading t).listing) ≡ t
+pub text_again : (t : List ℕ) → (reading t).outcome ≡ Ok tt → text_of (routine_in (reading t).listing) ≡ t
 text_again = read_text
 
 -- reading what was written gives all of the routine: S, D, n, its records, and blank ones from n on
@@ -23,17 +23,17 @@ pub written_whole : (R : Routine) → well_formed R ≡ true → reading (text_o
 written_whole R h = written_read R (formed R h)
 
 -- so it is read, as the same routine
-pub read_written : (R : Routine) → well_formed R ≡ true → ((reading (text_of R)).outcome ≡ Done) × (routine_in (reading (text_of R)).listing ≡ R)
+pub read_written : (R : Routine) → well_formed R ≡ true → ((reading (text_of R)).outcome ≡ Ok tt) × (routine_in (reading (text_of R)).listing ≡ R)
 read_written R h =
     let e = written_whole R h in
     (ap (λ (r : Read). r.outcome) e, ap (λ (r : Read). routine_in r.listing) e ∙ routine_of_read R)
 
 -- what is read of any text is all of a routine in the same way: the records from n on are blank
-pub text_whole : (t : List ℕ) → (reading t).outcome ≡ Done → reading t ≡ read_of (routine_in (reading t).listing)
+pub text_whole : (t : List ℕ) → (reading t).outcome ≡ Ok tt → reading t ≡ read_of (routine_in (reading t).listing)
 text_whole = read_whole
 
 -- 1.50: two texts are never read as one routine
-pub one_text : (t u : List ℕ) → (reading t).outcome ≡ Done → (reading u).outcome ≡ Done → routine_in (reading t).listing ≡ routine_in (reading u).listing → t ≡ u
+pub one_text : (t u : List ℕ) → (reading t).outcome ≡ Ok tt → (reading u).outcome ≡ Ok tt → routine_in (reading t).listing ≡ routine_in (reading u).listing → t ≡ u
 one_text t u h k e = sym (text_again t h) ∙ ap text_of e ∙ text_again u k
 
 -- no text has two routines
@@ -41,7 +41,7 @@ pub one_routine : (R Q : Routine) → well_formed R ≡ true → well_formed Q �
 one_routine R Q h k e = sym (read_written R h).1 ∙ ap (λ (t : List ℕ). routine_in (reading t).listing) e ∙ (read_written Q k).1
 
 -- a routine is well-formed exactly when some text is read as it
-pub readable : (R : Routine) → (well_formed R ≡ true) ↔ ((t : List ℕ) × ((reading t).outcome ≡ Done) × (routine_in (reading t).listing ≡ R))
+pub readable : (R : Routine) → (well_formed R ≡ true) ↔ ((t : List ℕ) × ((reading t).outcome ≡ Ok tt) × (routine_in (reading t).listing ≡ R))
 readable R = (
   λ h. let r = read_written R h in (text_of R, r.0, r.1),
   λ r. subst (λ (Q : Routine). well_formed Q ≡ true) r.2 (well (routine_in (reading r.0).listing) (read_formed r.0 r.1)),

@@ -2,7 +2,7 @@
 use Rattle.std.specs.Prelude.{List, [], ◌∷◌, ◌++◌, ℕ, ◌-◌, ◌<◌, replicate}
 use Rattle.data.specs.declared.Line.{Line}
 use Rattle.data.specs.declared.Line.TheVariants as L
-use Rattle.data.specs.declared.Outcome.TheVariants.{Done}
+use Rattle.std.specs.Prelude.{Ok}
 use Rattle.data.specs.declared.Shape.{Shape}
 use Rattle.data.specs.declared.Listing.{Listing}
 use Rattle.data.specs.declared.Read.{Read}
@@ -41,4 +41,4 @@ listing_for R = record { shape = shape_of R; wires = R.wires ++ replicate (128 -
 
 -- the read that stands for a routine
 abbrev pub read_of : Routine → Read
-read_of R = record { outcome = Done; line = 0; listing = listing_for R }
+read_of R = record { outcome = Ok tt; line = 0; listing = listing_for R }

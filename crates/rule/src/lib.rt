@@ -13,7 +13,7 @@ ghost use Rattle.asking.specs.Checks.{Accepted};
 ghost use Rattle.rule.specs.Run.{noted, run_of, needed_by};
 ghost use Rattle.rule.specs.Calls.{observed_of};
 
-use data::{Listing, Needed, Outcome, Padded, ProbeSet, Refusal, Shape, Step, Wire};
+use data::{Listing, Needed, Padded, ProbeSet, Refusal, Shape, Step, Wire};
 use step::Next;
 
 // A run of the rule so far: the leaves, and the steps noted.
@@ -138,7 +138,7 @@ fn needed_not(refusal: Refusal) -> Needed
     ensures { result ≡ needed_not refusal }
 {
     Needed {
-        outcome: Outcome::Refused(refusal),
+        outcome: Err(refusal),
         shares: 0,
         undecided: false,
     }
@@ -150,11 +150,11 @@ pub fn needs(listing: Listing, t: usize, set: ProbeSet) -> Needed
 {
     let outcome = asking::check_set(listing, t, set);
     match outcome {
-        Outcome::Refused(refusal) => needed_not(refusal),
-        Outcome::Done => {
+        Err(refusal) => needed_not(refusal),
+        Ok(()) => {
             let seen = observe(listing, t, set);
             Needed {
-                outcome: Outcome::Done,
+                outcome: Ok(()),
                 shares: seen.shares,
                 undecided: seen.undecided,
             }
@@ -167,7 +167,7 @@ fn padded_not(refusal: Refusal) -> Padded
 {
     let steps = [no_step(); 128];
     Padded {
-        outcome: Outcome::Refused(refusal),
+        outcome: Err(refusal),
         steps,
         len: 0,
         undecided: false,
@@ -180,12 +180,12 @@ pub fn pads(listing: Listing, t: usize, set: ProbeSet) -> Padded
 {
     let outcome = asking::check_set(listing, t, set);
     match outcome {
-        Outcome::Refused(refusal) => padded_not(refusal),
-        Outcome::Done => {
+        Err(refusal) => padded_not(refusal),
+        Ok(()) => {
             let seen = observe(listing, t, set);
             let steps = seen.steps;
             Padded {
-                outcome: Outcome::Done,
+                outcome: Ok(()),
                 steps,
                 len: seen.len,
                 undecided: seen.undecided,

@@ -2,7 +2,7 @@
 use Rattle.std.specs.Prelude.{List, ℕ, get_or, take}
 use Rattle.document.specs.Routine.{routine_of}
 use Rattle.document.specs.Running.{bit, gives, bits, first_values}
-use Rattle.data.specs.declared.Outcome.TheVariants.{Refused}
+use Rattle.std.specs.Prelude.{Err}
 use Rattle.data.specs.declared.Ran.{Ran}
 use Rattle.data.specs.declared.Refusal.{Refusal}
 use Rattle.data.specs.declared.Shape.{Shape}
@@ -10,7 +10,7 @@ use Rattle.data.specs.declared.Wire.{Wire}
 
 -- a refused run wrote nothing
 abbrev pub ran_not : Refusal → Ran
-ran_not f = record { outcome = Refused f; len = 0 }
+ran_not f = record { outcome = Err f; len = 0 }
 
 -- the value of wire w of record x, where the values of the wires before it stand in the buffer
 abbrev pub value_from : List ℕ → ℕ → Wire → ℕ → ℕ → ℕ → ℕ

@@ -6,7 +6,7 @@ ghost use Rattle.document.specs.Lent.{RunsInto};
 ghost use Rattle.runner.specs.Run.{ran_not, value_from, values};
 
 use counts::Counts;
-use data::{Listing, Outcome, Ran, Refusal, Shape, Wire};
+use data::{Listing, Ran, Refusal, Shape, Wire};
 
 // The value of wire u, if it is one of the w wires that have theirs.
 fn earlier_value(buf: &[u8], w: usize, u: usize) -> u8
@@ -32,7 +32,7 @@ fn not_run(f: Refusal) -> Ran
     ensures { result ≡ ran_not f }
 {
     Ran {
-        outcome: Outcome::Refused(f),
+        outcome: Err(f),
         len: 0,
     }
 }
@@ -82,7 +82,7 @@ pub fn run(listing: Listing, shares: u64, randoms: u64, publics: u64, buf: &mut 
     }
     put_values(n, ws, shares, randoms, publics, buf);
     Ran {
-        outcome: Outcome::Done,
+        outcome: Ok(()),
         len: n,
     }
 }

@@ -6,19 +6,19 @@ ghost use Rattle.document.specs.Reading.{taken, not_taken, make, mark_out, take_
 ghost use Rattle.state.specs.Ceilings.{UnderCeilings};
 ghost use Rattle.taking.specs.Operands.{unused_zero};
 
-use data::{Kind, Line, Outcome, Refusal, State, Taken};
+use data::{Kind, Line, Refusal, State, Taken};
 
 fn accept(st: State) -> Taken
     ensures { result ≡ taken st }
 {
-    let outcome = Outcome::Done;
+    let outcome = Ok(());
     Taken { outcome, state: st }
 }
 
 fn turn_away(st: State, f: Refusal) -> Taken
     ensures { result ≡ not_taken f st }
 {
-    let outcome = Outcome::Refused(f);
+    let outcome = Err(f);
     Taken { outcome, state: st }
 }
 

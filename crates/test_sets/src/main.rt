@@ -1,7 +1,7 @@
 // Routines from standard input, each ended by a zero byte: what the judgements and the set calls answer for each, and some additions, printed.
 #![tactic(auto)]
 
-use data::{Listing, Outcome, ProbeSet, Shape, Step, Which};
+use data::{Listing, ProbeSet, Shape, Step, Which};
 use std::io;
 use std::io::{BufWriter, Write};
 use test_show::{say, say_number, say_set, show_judged, wide, wide_byte};
@@ -105,7 +105,7 @@ fn show_set(out: &mut impl Write, listing: Listing, set: ProbeSet) -> io::Result
     say_set(out, set)?;
     say(out, b":")?;
     match o {
-        Outcome::Done => {
+        Ok(()) => {
             say_number(out, needed.shares)?;
             if needed.undecided {
                 say(out, b" open")?;
@@ -113,7 +113,7 @@ fn show_set(out: &mut impl Write, listing: Listing, set: ProbeSet) -> io::Result
             say(out, b";")?;
             say_steps(out, steps, padded.len)?;
         }
-        Outcome::Refused(_) => {
+        Err(_) => {
             say(out, b" refused")?;
             say_number(out, test_show::outcome_number(o))?;
         }

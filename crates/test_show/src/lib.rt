@@ -3,7 +3,7 @@
 
 ghost use Rattle.std.specs.Prelude.{◌+◌, ◌≤◌, length};
 
-use data::{Judged, Outcome, ProbeSet, Verdict};
+use data::{Judged, ProbeSet, Refusal, Verdict};
 use std::alloc::Global;
 use std::io;
 use std::io::{Read, Write};
@@ -36,10 +36,10 @@ pub fn wide_byte(b: u8) -> u64 {
 }
 
 // 0 where the call did what was asked, or the number of the refusal.
-pub fn outcome_number(o: Outcome) -> u64 {
+pub fn outcome_number(o: Result<(), Refusal>) -> u64 {
     match o {
-        Outcome::Done => 0,
-        Outcome::Refused(f) => f.number(),
+        Ok(()) => 0,
+        Err(f) => f.number(),
     }
 }
 

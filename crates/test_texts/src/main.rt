@@ -1,7 +1,7 @@
 // Texts from standard input, parted by a zero byte: what reading, writing and running answer for each, printed.
 #![tactic(auto)]
 
-use data::{Listing, Outcome, Ran, Shape, Wire, Written};
+use data::{Listing, Ran, Shape, Wire, Written};
 use std::io;
 use std::io::{BufWriter, Write};
 use test_show::{outcome_number, say, say_number, wide, wide_byte};
@@ -213,8 +213,8 @@ fn show_text(out: &mut impl Write, text: &[u8]) -> io::Result<()> {
     say_number(out, wide(n))?;
     say(out, b"\n")?;
     match o {
-        Outcome::Done => show_calls(out, listing, text)?,
-        Outcome::Refused(_) => {}
+        Ok(()) => show_calls(out, listing, text)?,
+        Err(_) => {}
     }
     Ok(())
 }

@@ -1,7 +1,7 @@
 -- A routine's text in the order of the code: the first line, then the wires and the outputs, record by record.
 use Rattle.std.specs.Prelude.{List, [], ◌++◌, ℕ, zero, suc, ◌+◌, ◌-◌, ◌*◌}
 use Rattle.document.specs.Lines.{spelled}
-use Rattle.data.specs.declared.Outcome.TheVariants.{Refused}
+use Rattle.std.specs.Prelude.{Err}
 use Rattle.data.specs.declared.Refusal.{Refusal}
 use Rattle.data.specs.declared.Shape.{Shape}
 use Rattle.data.specs.declared.Wire.{Wire}
@@ -27,4 +27,4 @@ text_parts σ ws = head_line σ.s σ.d ++ section Wires ws (σ.s * σ.d) (σ.n -
 
 -- a refused writing wrote nothing
 abbrev pub written_not : Refusal → Written
-written_not f = record { outcome = Refused f; len = 0 }
+written_not f = record { outcome = Err f; len = 0 }

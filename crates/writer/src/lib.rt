@@ -7,7 +7,7 @@ ghost use Rattle.records.specs.Records.{Fit};
 ghost use Rattle.buffer.specs.Put.{Put};
 ghost use Rattle.writer.specs.Parts.{section, text_parts, written_not};
 
-use data::{Listing, Outcome, Refusal, Shape, Wire, Written};
+use data::{Listing, Refusal, Shape, Wire, Written};
 use pieces::Part;
 
 // ---- the parts behind the first line
@@ -80,7 +80,7 @@ fn not_written(f: Refusal) -> Written
     ensures { result ≡ written_not f }
 {
     Written {
-        outcome: Outcome::Refused(f),
+        outcome: Err(f),
         len: 0,
     }
 }
@@ -98,7 +98,7 @@ pub fn write(listing: Listing, buf: &mut [u8]) -> Written
     }
     let end = put_text(listing, buf);
     Written {
-        outcome: Outcome::Done,
+        outcome: Ok(()),
         len: end,
     }
 }

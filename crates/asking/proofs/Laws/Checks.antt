@@ -15,8 +15,8 @@ use Rattle.document.specs.Judgements.{order_fits, probes_fit, set_refusal}
 use Rattle.document.specs.Lent.{lent}
 use Rattle.data.specs.declared.Refusal.{Refusal}
 use Rattle.data.specs.declared.Refusal.TheVariants as No
-use Rattle.data.specs.declared.Outcome.{Outcome}
-use Rattle.data.specs.declared.Outcome.TheVariants.{Done, Refused}
+use Rattle.data.specs.Refusals.{Outcome}
+use Rattle.std.specs.Prelude.{Ok, Err}
 use Rattle.data.specs.declared.Wire.{Wire}
 use Rattle.data.specs.declared.Shape.{Shape}
 use Rattle.data.specs.declared.ProbeSet.{ProbeSet}
@@ -67,20 +67,20 @@ answer_in_order good order probes refuse answer = cond good (cond order (cond pr
 
 -- what a call answers once its tests are made
 abbrev pub settled : {A : Type 0} → Outcome → (Refusal → A) → A → A
-settled Done refuse answer = answer
-settled (Refused f) refuse answer = refuse f
+settled (Ok u) refuse answer = answer
+settled (Err f) refuse answer = refuse f
 
 abbrev is_done : Outcome → Bool
-is_done Done = true
-is_done (Refused f) = false
+is_done (Ok u) = true
+is_done (Err f) = false
 
-settles : {A : Type 0} (g o p : Bool) (refuse : Refusal → A) (answer : A) → settled (answer_in_order g o p Refused Done) refuse answer ≡ answer_in_order g o p refuse answer
+settles : {A : Type 0} (g o p : Bool) (refuse : Refusal → A) (answer : A) → settled (answer_in_order g o p Err (Ok tt)) refuse answer ≡ answer_in_order g o p refuse answer
 settles true true true refuse answer = refl
 settles true true false refuse answer = refl
 settles true false p refuse answer = refl
 settles false o p refuse answer = refl
 
-all_three : (g o p : Bool) → answer_in_order g o p Refused Done ≡ Done → (g ≡ true) × (o ≡ true) × (p ≡ true)
+all_three : (g o p : Bool) → answer_in_order g o p Err (Ok tt) ≡ Ok tt → (g ≡ true) × (o ≡ true) × (p ≡ true)
 all_three true true true e = (refl, refl, refl)
 all_three true true false e = clash (ap is_done e) refl
 all_three true false p e = clash (ap is_done e) refl
@@ -103,23 +103,23 @@ module _ (σ : Shape) (ws : List Wire) (t : ℕ) (set : ProbeSet) where
       ∙ ap (λ (b : Bool). whole σ.n (b && well_formed R)) (sym long))
       (λ short. cond_false _ _ short ∙ ap (λ (b : Bool). whole σ.n (b && well_formed R)) (sym short))
 
-  checked_is : checked σ ws t set ≡ answer_in_order (records_fit σ ws) (order_in σ.d t) (probes_in σ.n t set) Refused Done
+  checked_is : checked σ ws t set ≡ answer_in_order (records_fit σ ws) (order_in σ.d t) (probes_in σ.n t set) Err (Ok tt)
   unfolding checked
-  checked_is = in_order Refused (λ _. Done)
+  checked_is = in_order Err (λ _. (Ok tt))
 
-  pub check_records : records_fit σ ws ≡ false → Refused No.Records ≡ checked σ ws t set
+  pub check_records : records_fit σ ws ≡ false → Err No.Records ≡ checked σ ws t set
   check_records e = sym (checked_is ∙ cond_false _ _ e)
 
-  pub check_order : records_fit σ ws ≡ true → order_in σ.d t ≡ false → Refused No.Order ≡ checked σ ws t set
+  pub check_order : records_fit σ ws ≡ true → order_in σ.d t ≡ false → Err No.Order ≡ checked σ ws t set
   check_order g e = sym (checked_is ∙ cond_true _ _ g ∙ cond_false _ _ e)
 
-  pub check_probes : records_fit σ ws ≡ true → order_in σ.d t ≡ true → probes_in σ.n t set ≡ false → Refused No.Probes ≡ checked σ ws t set
+  pub check_probes : records_fit σ ws ≡ true → order_in σ.d t ≡ true → probes_in σ.n t set ≡ false → Err No.Probes ≡ checked σ ws t set
   check_probes g o e = sym (checked_is ∙ cond_true _ _ g ∙ cond_true _ _ o ∙ cond_false _ _ e)
 
-  pub check_passes : records_fit σ ws ≡ true → order_in σ.d t ≡ true → probes_in σ.n t set ≡ true → Done ≡ checked σ ws t set
+  pub check_passes : records_fit σ ws ≡ true → order_in σ.d t ≡ true → probes_in σ.n t set ≡ true → (Ok tt) ≡ checked σ ws t set
   check_passes g o e = sym (checked_is ∙ cond_true _ _ g ∙ cond_true _ _ o ∙ cond_true _ _ e)
 
-  pub passed_of : checked σ ws t set ≡ Done → Accepted σ ws t set
+  pub passed_of : checked σ ws t set ≡ Ok tt → Accepted σ ws t set
   passed_of e = let a = all_three (records_fit σ ws) (order_in σ.d t) (probes_in σ.n t set) (sym checked_is ∙ e) in
       record { good = a.0; order = a.1; probes = a.2 }
 

@@ -9,7 +9,7 @@ use Rattle.data.specs.ProbeSets.{held, ascending, may_add, insert, adding}
 use Rattle.data.specs.Placing.{rank, placed_at, places_with}
 use Rattle.data.proofs.Laws.Tests.{and_l, and_r, and_false, or_l, cond_cases, cond_true, cond_false, true_eqb, true_ltb, ltb_true, true_leb, leb_true}
 use Rattle.data.specs.declared.Refusal.TheVariants as No
-use Rattle.data.specs.declared.Outcome.TheVariants.{Done, Refused}
+use Rattle.std.specs.Prelude.{Ok, Err}
 use Rattle.data.specs.declared.ProbeSet.{ProbeSet}
 use Rattle.data.specs.declared.Added.{Added}
 
@@ -146,13 +146,13 @@ unfolding may_add
 may_add_low s w e = leb_true w 127 (search (and_l, and_r))
 
 pub added : (s : ProbeSet) (w : ℕ) → length s.places ≡ 4 → may_add s w ≡ true
-    → ◌≡◌ {A = Added} (record { outcome = Done; set = record { places = places_with s.places s.len (rank w (held s)) w; len = s.len + 1 } }) (adding s w)
+    → ◌≡◌ {A = Added} (record { outcome = Ok tt; set = record { places = places_with s.places s.len (rank w (held s)) w; len = s.len + 1 } }) (adding s w)
 unfolding adding
 added s w e may =
-    ap {B = Added} (λ (ps : List ℕ). record { outcome = Done; set = record { places = ps; len = s.len + 1 } })
+    ap {B = Added} (λ (ps : List ℕ). record { outcome = Ok tt; set = record { places = ps; len = s.len + 1 } })
     (added_places w s.places s.len e (may_add_room s w may))
     ∙ sym (cond_true _ _ may)
 
-pub not_added : (s : ProbeSet) (w : ℕ) → may_add s w ≡ false → ◌≡◌ {A = Added} (record { outcome = Refused No.Probes; set = s }) (adding s w)
+pub not_added : (s : ProbeSet) (w : ℕ) → may_add s w ≡ false → ◌≡◌ {A = Added} (record { outcome = Err No.Probes; set = s }) (adding s w)
 unfolding adding
 not_added s w may = sym (cond_false _ _ may)

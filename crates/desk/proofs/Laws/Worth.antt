@@ -6,7 +6,7 @@ use Rattle.document.specs.Reading.{reading, routine_in}
 use Rattle.document.specs.Worth.{PassesPlain}
 use Rattle.document.specs.Desk.{space, printed, plain_word, pass_word, printed_line, desk_prints, pass_line, HasLine}
 use Rattle.document.proofs.Theorems.{printed_pass_keeps, cut_prints_same}
-use Rattle.data.specs.declared.Outcome.TheVariants.{Done}
+use Rattle.std.specs.Prelude.{Ok}
 use Rattle.buffer.proofs.Laws.Beginning.{begins_first}
 use Rattle.intake.specs.declared.Input.{Input}
 use Rattle.intake.specs.declared.Input.TheVariants.{Whole, Failed}
@@ -25,7 +25,7 @@ no_line t c l =
 
 -- what has the line is of a whole input, and its bytes are read as a routine that passes at t
 kept : (input : Input) (bytes : List ℕ) (t c : ℕ) → HasLine (pass_line t c) (desk_answers input bytes)
-    → (n : ℕ) × (input ≡ Whole n) × ((reading (take n bytes)).outcome ≡ Done) × PassesPlain (routine_in (reading (take n bytes)).listing) t c
+    → (n : ℕ) × (input ≡ Whole n) × ((reading (take n bytes)).outcome ≡ Ok tt) × PassesPlain (routine_in (reading (take n bytes)).listing) t c
 unfolding desk_answers
 kept (Whole n) bytes t c l = let p = printed_pass_keeps (take n bytes) t c l in (n, refl, p.0, p.1)
 kept Failed bytes t c l = absurd (no_line t c l)
@@ -34,7 +34,7 @@ kept Failed bytes t c l = absurd (no_line t c l)
 -- passes there and keeps its secrets
 pub desk_pass_keeps : (input : Input) (bytes buffer : List ℕ) (r : ℕ) (after : List ℕ) (t c : ℕ) → DeskAnswered input bytes buffer r after
     → HasLine (pass_line t c) (take r after)
-    → (n : ℕ) × (input ≡ Whole n) × ((reading (take n bytes)).outcome ≡ Done) × PassesPlain (routine_in (reading (take n bytes)).listing) t c
+    → (n : ℕ) × (input ≡ Whole n) × ((reading (take n bytes)).outcome ≡ Ok tt) × PassesPlain (routine_in (reading (take n bytes)).listing) t c
 desk_pass_keeps input bytes buffer r after t c p l = kept input bytes t c (subst (HasLine (pass_line t c)) (begins_first p) l)
 
 -- 8.5, 8.16: where the bytes are the first 4,097 of a text, or all it has, its answer is that of the whole text

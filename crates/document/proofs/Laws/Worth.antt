@@ -21,8 +21,8 @@ use Rattle.document.proofs.Laws.Sound.{sound}
 use Rattle.document.proofs.Laws.Sets.{in_order_below}
 use Rattle.document.proofs.Laws.Judging.{pass_exactly, passed_has, order_below}
 use Rattle.document.proofs.Laws.Printed.{printed_once, counted_free, answer_free, space_low, lf_low, fields_same, line_cut, line_among}
-use Rattle.data.specs.declared.Outcome.{Outcome}
-use Rattle.data.specs.declared.Outcome.TheVariants.{Done, Refused}
+use Rattle.data.specs.Refusals.{Outcome}
+use Rattle.std.specs.Prelude.{Ok, Err}
 use Rattle.data.specs.declared.Read.{Read}
 use Rattle.data.specs.declared.Verdict.{Verdict}
 use Rattle.data.specs.declared.Verdict.TheVariants as Says
@@ -106,20 +106,20 @@ module _ (t c : ℕ) where
       ]
 
   -- `plain` is not `refused`, so it is no line of a refused text
-  among_printed : (o : Outcome) (r : Read) → Among pass_bytes (cut lf (text_lines o r)) → (o ≡ Done) × Shown (routine_in r.listing)
+  among_printed : (o : Outcome) (r : Read) → Among pass_bytes (cut lf (text_lines o r)) → (o ≡ Ok tt) × Shown (routine_in r.listing)
   unfolding text_lines routine_lines cut each
-  among_printed Done r h = (refl, among_orders (routine_in r.listing) _ 1 h)
-  among_printed (Refused f) r h =
+  among_printed (Ok u) r h = (refl, among_orders (routine_in r.listing) _ 1 h)
+  among_printed (Err f) r h =
       elim (first_or_later refused_word (printed (number_of f) ∷ printed r.line ∷ []) []
       (λ s low. counted_free s low refused_word (number_of f) (r.line ∷ []) refl)
-      (subst (λ (v : List ℕ). Among pass_bytes (cut lf v)) (sym (append-nil (text_lines (Refused f) r))) h)) [
+      (subst (λ (v : List ℕ). Among pass_bytes (cut lf v)) (sym (append-nil (text_lines (Err f) r))) h)) [
         | inl e ↦ (let z = ap (λ (f : List (List ℕ)). get_or (get_or f 0 []) 0 0) e in absurd (omega arith))
         | inr behind ↦ elim behind [ inl e ↦ absurd (not_empty e) | inr none ↦ absurd none ]
       ]
 
   -- so where the desk prints it, the text was accepted
   shown : (text : List ℕ) → HasLine (printed_line pass_fields) (desk_prints text)
-      → ((reading text).outcome ≡ Done) × Shown (routine_in (reading text).listing)
+      → ((reading text).outcome ≡ Ok tt) × Shown (routine_in (reading text).listing)
   unfolding desk_prints
   shown text l = among_printed (reading text).outcome (reading text) (line_among pass_fields _ (pass_free lf lf_low) l)
 
@@ -137,5 +137,5 @@ module _ (t c : ℕ) where
       ap (λ (k : ℕ). (judged plain R k).verdict) (sym order) ∙ l.passes ∙ ap Says.Pass count
 
   pub printed_pass : (text : List ℕ) → HasLine (printed_line pass_fields) (desk_prints text)
-      → ((reading text).outcome ≡ Done) × ((judged plain (routine_in (reading text).listing) t).verdict ≡ Says.Pass c)
+      → ((reading text).outcome ≡ Ok tt) × ((judged plain (routine_in (reading text).listing) t).verdict ≡ Says.Pass c)
   printed_pass text h = let s = shown text h in (s.0, exact (routine_in (reading text).listing) s.1)

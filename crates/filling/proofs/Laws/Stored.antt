@@ -9,8 +9,8 @@ use Rattle.document.specs.Reading.{take_line, not_read, onward, read_lines, begu
 use Rattle.document.specs.Routine.{in_range}
 use Rattle.data.specs.declared.Line.{Line}
 use Rattle.data.specs.declared.Line.TheVariants as L
-use Rattle.data.specs.declared.Outcome.{Outcome}
-use Rattle.data.specs.declared.Outcome.TheVariants.{Done, Refused}
+use Rattle.data.specs.Refusals.{Outcome}
+use Rattle.std.specs.Prelude.{Ok, Err}
 use Rattle.data.specs.declared.Read.{Read}
 use Rattle.data.specs.declared.Refusal.{Refusal}
 use Rattle.data.specs.declared.Refusal.TheVariants as No
@@ -31,8 +31,8 @@ not_read_lem : (f : Refusal) (k : ℕ) → Storable (not_read f k)
 not_read_lem f k = record { few = zero-le; whole = λ list. refl }
 
 onward_storable : (o : Outcome) (k : ℕ) (r : Read) → Storable r → Storable (onward o k r)
-onward_storable Done k r h = h
-onward_storable (Refused f) k r h = not_read_lem f k
+onward_storable (Ok u) k r h = h
+onward_storable (Err f) k r h = not_read_lem f k
 
 lines_storable : (k : ℕ) (st : State) (ls : List Line) → UnderCeilings st → Storable (read_lines k st ls)
 unfolding read_lines

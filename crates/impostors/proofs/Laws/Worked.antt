@@ -15,7 +15,7 @@ use Rattle.document.specs.Lent.{lent, lent_read, lent_read_into, lent_written, l
 use Rattle.document.specs.Lent.{whole_lent}
 use Rattle.document.proofs.Examples.{example_a, example_b, lines, cases}
 use Rattle.data.specs.declared.Kind.TheVariants.{Share, Rand, Xor}
-use Rattle.data.specs.declared.Outcome.TheVariants.{Done, Refused}
+use Rattle.std.specs.Prelude.{Ok, Err}
 use Rattle.data.specs.declared.Refusal.TheVariants as No
 use Rattle.data.specs.declared.Shape.{Shape}
 use Rattle.data.specs.declared.Step.{Step}
@@ -79,8 +79,8 @@ unfoldable pub shares_after : ℕ → Routine → List ℕ → ℕ
 shares_after k R ps = word (R.S * R.D) (at (live R (probed ps) (leaves_after (take k (steps R ps)) (first_leaves R))))
 
 pub worked_needs :
-    (lent_needing (sized sum) sum.wires 1 (set_of (10 ∷ [])) ≡ record { outcome = Done; shares = 0; undecided = false })
-    × (lent_needing (sized pair) pair.wires 1 (set_of (3 ∷ [])) ≡ record { outcome = Done; shares = 3; undecided = true })
+    (lent_needing (sized sum) sum.wires 1 (set_of (10 ∷ [])) ≡ record { outcome = Ok tt; shares = 0; undecided = false })
+    × (lent_needing (sized pair) pair.wires 1 (set_of (3 ∷ [])) ≡ record { outcome = Ok tt; shares = 3; undecided = true })
     × (lent_needing (sized pair) pair.wires 0 (set_of (3 ∷ [])) ≡ needed_not No.Order)
 unfolding whole_lent whole_judgements
 worked_needs = (refl, refl, refl)
@@ -114,22 +114,22 @@ abbrev pub text_bare : List ℕ
 text_bare = bytes "routine\t1\t2\n"
 
 pub worked_read :
-    (lent_read text_bare blanks ≡ record { outcome = Done; line = 0; shape = sized bare })
+    (lent_read text_bare blanks ≡ record { outcome = Ok tt; line = 0; shape = sized bare })
     × (lent_read_into text_bare blanks ≡ bare.wires ++ replicate 126 blank)
-    × (lent_read [] blanks ≡ record { outcome = Refused No.Length; line = 0; shape = record { s = 0; d = 0; n = 0 } })
+    × (lent_read [] blanks ≡ record { outcome = Err No.Length; line = 0; shape = record { s = 0; d = 0; n = 0 } })
 unfolding whole_lent whole_reading bytes
 worked_read = (refl, refl, refl)
 
 pub worked_write :
-    (lent_written (sized bare) bare.wires (replicate 12 0) ≡ record { outcome = Done; len = 12 })
+    (lent_written (sized bare) bare.wires (replicate 12 0) ≡ record { outcome = Ok tt; len = 12 })
     × (lent_written_into (sized bare) bare.wires (replicate 12 0) ≡ text_bare)
-    × (lent_written (sized bare) bare.wires [] ≡ record { outcome = Refused No.Buffer; len = 0 })
+    × (lent_written (sized bare) bare.wires [] ≡ record { outcome = Err No.Buffer; len = 0 })
 unfolding whole_lent whole_lines whole_writing bytes
 worked_write = (refl, refl, refl)
 
 pub worked_run :
-    (lent_ran (sized bare) bare.wires 1 0 0 (9 ∷ 9 ∷ 9 ∷ []) ≡ record { outcome = Done; len = 2 })
+    (lent_ran (sized bare) bare.wires 1 0 0 (9 ∷ 9 ∷ 9 ∷ []) ≡ record { outcome = Ok tt; len = 2 })
     × (lent_ran_into (sized bare) bare.wires 1 0 0 (9 ∷ 9 ∷ 9 ∷ []) ≡ 1 ∷ 0 ∷ 9 ∷ [])
-    × (lent_ran (sized bare) bare.wires 1 0 0 [] ≡ record { outcome = Refused No.Buffer; len = 0 })
+    × (lent_ran (sized bare) bare.wires 1 0 0 [] ≡ record { outcome = Err No.Buffer; len = 0 })
 unfolding whole_lent whole_running
 worked_run = (refl, refl, refl)

@@ -12,14 +12,14 @@ returns-then-end-rest c =
     let last = c.part-end.ensures.last c.if-end-rest.true in
     c.finish.ensures ∙ sym (lines_end i.k i.st (drop i.at text) c.tail-rest.result.now c.tail-rest.ensures last) ∙ i.invariant.3
 
-pub returns-in-Refused : goal.returns-in-Refused
-returns-in-Refused c =
+pub returns-in-Err : goal.returns-in-Err
+returns-in-Err c =
     let i = c.loop-rest in
     let text = c.args.text.now in
     c.refuse.ensures
     ∙ turn_no i.k i.st text i.at c.part-end.result c.tail-rest.result.now c.head.result.now c.line_of-l.result c.take_line-r.result
     c.tail-rest.ensures (c.part-end.ensures.more c.if-end-rest.false) c.head.ensures c.line_of-l.ensures c.take_line-r.ensures
-    c.in-Refused.is
+    c.in-Err.is
     ∙ i.invariant.3
 
 pub loop-rest-preserved : goal.loop-rest-preserved
@@ -33,6 +33,6 @@ loop-rest-preserved c =
           c.tail-rest.ensures (c.part-end.ensures.more c.if-end-rest.false) c.head.ensures c.line_of-l.ensures c.take_line-r.ensures i.invariant.2,
       turn_on i.k i.st text i.at c.part-end.result c.tail-rest.result.now c.head.result.now c.line_of-l.result c.take_line-r.result
           c.tail-rest.ensures (c.part-end.ensures.more c.if-end-rest.false) c.head.ensures c.line_of-l.ensures c.take_line-r.ensures
-          c.in-Done.is
+          c.in-Ok.is
           ∙ i.invariant.3,
     )

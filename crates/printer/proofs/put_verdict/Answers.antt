@@ -24,7 +24,7 @@ returns-in-Open c = rw c.in-Open.is
     (put_same (put_then c.put_counted-k.ensures c.put_wires.ensures) (open_fields _ _ _))
 
 pub returns-in-Refused : goal.returns-in-Refused
-returns-in-Refused c = rw c.in-Refused.is
+returns-in-Err c = rw c.in-Refused.is
     (put_same c.put_counted-in-Refused.ensures
     (ap (λ (k : ℕ). (number_field c.args.t ++ (space ∷ refused_word)) ++ number_field k) c.number.ensures
     ∙ refused_fields _ _ _))

@@ -9,8 +9,8 @@ use Rattle.document.specs.Reading.{reading, routine_in}
 use Rattle.document.proofs.Examples.{example_a}
 use Rattle.data.specs.declared.Line.{Line}
 use Rattle.data.specs.declared.Line.TheVariants.{Head, Rand, Pub, Not, Out}
-use Rattle.data.specs.declared.Outcome.{Outcome}
-use Rattle.data.specs.declared.Outcome.TheVariants.{Done, Refused}
+use Rattle.data.specs.Refusals.{Outcome}
+use Rattle.std.specs.Prelude.{Ok, Err}
 use Rattle.data.specs.declared.Read.{Read}
 
 unfoldable pub bytes : String → List ℕ
@@ -19,8 +19,8 @@ bytes (c then cs) = code c ∷ bytes cs
 
 -- what a read says: the number of the refusal (0: none), its line, S, D and n
 abbrev number_in : Outcome → ℕ
-number_in Done = 0
-number_in (Refused f) = number_of f
+number_in (Ok u) = 0
+number_in (Err f) = number_of f
 
 abbrev answer : Read → List ℕ
 answer r =

@@ -8,8 +8,8 @@ use Rattle.data.specs.declared.Line.{Line}
 use Rattle.data.specs.declared.Line.TheVariants as L
 use Rattle.data.specs.declared.Refusal.{Refusal}
 use Rattle.data.specs.declared.Refusal.TheVariants as No
-use Rattle.data.specs.declared.Outcome.{Outcome}
-use Rattle.data.specs.declared.Outcome.TheVariants.{Done, Refused}
+use Rattle.data.specs.Refusals.{Outcome}
+use Rattle.std.specs.Prelude.{Ok, Err}
 use Rattle.data.specs.declared.State.{State}
 use Rattle.data.specs.declared.Read.{Read}
 use Rattle.data.proofs.Laws.Tests.{both, wire_cases}
@@ -103,30 +103,30 @@ pub record Reached (r : Read) (ls : List Line) : Type 0 where
   pub is : r ≡ read_all state
 
 lines_reached : (k : ℕ) (st : State) (R : Routine) (ls more-ls : List Line)
-    → Known st R ls → (read_lines k st more-ls).outcome ≡ Done → Reached (read_lines k st more-ls) (ls ++ more-ls)
+    → Known st R ls → (read_lines k st more-ls).outcome ≡ Ok tt → Reached (read_lines k st more-ls) (ls ++ more-ls)
 unfolding read_lines
 lines_reached k st R ls [] g h = record { state = st; routine = R; known = subst (Known st R) (sym (append-nil ls)) g; is = refl }
 lines_reached k st R ls (l ∷ rest) g h =
     go (take_line st l).outcome refl (λ R' g' h'. lines_reached (k + 1) (take_line st l).state R' (ls ++ l ∷ []) rest g' h') h
   where
     go : (o : Outcome) → (take_line st l).outcome ≡ o
-        → ((R' : Routine) → Known (take_line st l).state R' (ls ++ l ∷ []) → (read_lines (k + 1) (take_line st l).state rest).outcome ≡ Done
+        → ((R' : Routine) → Known (take_line st l).state R' (ls ++ l ∷ []) → (read_lines (k + 1) (take_line st l).state rest).outcome ≡ Ok tt
         → Reached (read_lines (k + 1) (take_line st l).state rest) ((ls ++ l ∷ []) ++ rest))
-        → (onward o k (read_lines (k + 1) (take_line st l).state rest)).outcome ≡ Done
+        → (onward o k (read_lines (k + 1) (take_line st l).state rest)).outcome ≡ Ok tt
         → Reached (onward o k (read_lines (k + 1) (take_line st l).state rest)) (ls ++ l ∷ rest)
-    go (Refused f) e rec h = not_done h
-    go Done e rec h =
+    go (Err f) e rec h = not_done h
+    go (Ok u) e rec h =
         let s = does_known st R ls l (take_line st l).state g (does st l e) in
         subst (Reached (read_lines (k + 1) (take_line st l).state rest)) (append_assoc ls (l ∷ []) rest) (rec s.routine s.known h)
 
 -- ---- the whole text
 
 -- the test passed, if the text was read
-tested : (b : Bool) (f : Refusal) (k : ℕ) (r : Read) → (cond b r (not_read f k)).outcome ≡ Done → (b ≡ true) × (cond b r (not_read f k) ≡ r)
+tested : (b : Bool) (f : Refusal) (k : ℕ) (r : Read) → (cond b r (not_read f k)).outcome ≡ Ok tt → (b ≡ true) × (cond b r (not_read f k) ≡ r)
 tested true f k r h = (refl, refl)
 tested false f k r h = not_done h
 
-head_reached : (l : Line) (ls : List Line) → (from_header l ls).outcome ≡ Done → Reached (from_header l ls) (l ∷ ls)
+head_reached : (l : Line) (ls : List Line) → (from_header l ls).outcome ≡ Ok tt → Reached (from_header l ls) (l ∷ ls)
 unfolding from_header
 head_reached L.Bad ls h = not_done h
 head_reached (L.Rand w) ls h = not_done h
@@ -140,7 +140,7 @@ head_reached (L.Head s d) ls h =
     subst (λ (r : Read). Reached r (L.Head s d ∷ ls)) (sym t.1)
     (lines_reached 2 (begun s d) (only_shares s d) (L.Head s d ∷ []) ls (begun_known s d t.0) (sym (ap (λ (r : Read). r.outcome) t.1) ∙ h))
 
-first_reached : (ls : List Line) → (from_first ls).outcome ≡ Done → Reached (from_first ls) ls
+first_reached : (ls : List Line) → (from_first ls).outcome ≡ Ok tt → Reached (from_first ls) ls
 unfolding from_first
 first_reached [] h = not_done h
 first_reached (l ∷ ls) h = head_reached l ls h
@@ -151,7 +151,7 @@ pub record ReadWhole (t : List ℕ) : Type 0 where
   pub shut : get_or t (length t - 1) 0 ≡ lf
   pub reached : Reached (reading t) (lines_in t)
 
-pub accepted : (t : List ℕ) → (reading t).outcome ≡ Done → ReadWhole t
+pub accepted : (t : List ℕ) → (reading t).outcome ≡ Ok tt → ReadWhole t
 unfolding reading
 accepted t h =
     let typed = each letter t && eqb (get_or t (length t - 1) 0) lf in
@@ -171,7 +171,7 @@ pub routine_of_read : (R : Routine) → routine_in (listing_for R) ≡ R
 routine_of_read R = ap (with_wires R) (take-append_seam R.wires (replicate (128 - size R) blank))
 
 abbrev read_with : ℕ → ℕ → ℕ → List Wire → Read
-read_with s d n vs = record { outcome = Done; line = 0; listing = record { shape = record { s = s; d = d; n = n }; wires = vs } }
+read_with s d n vs = record { outcome = Ok tt; line = 0; listing = record { shape = record { s = s; d = d; n = n }; wires = vs } }
 
 pub holds_read : (st : State) (R : Routine) → StandsFor st R → read_all st ≡ read_of R
 holds_read st R h =
@@ -203,7 +203,7 @@ module _ (t : List ℕ) (whole : ReadWhole t) where
       let below : Each (Below 128) (lines_in t) = subst (Each (Below 128)) lines_by (lines_below (routine_in (reading t).listing) formed_by) in
       ap text_of_lines lines_by ∙ text_lines_lem (heads (cut lf t)) (each_writable (lines_in t) below) ∙ ended_text t whole.some whole.shut
 
-module _ (t : List ℕ) (h : (reading t).outcome ≡ Done) where
+module _ (t : List ℕ) (h : (reading t).outcome ≡ Ok tt) where
   pub read_formed : Formed (routine_in (reading t).listing)
   read_formed = formed_by t (accepted t h)
 

@@ -11,7 +11,7 @@ use Rattle.data.specs.declared.Line.{Line}
 use Rattle.data.specs.declared.Line.TheVariants as L
 use Rattle.data.specs.declared.Refusal.{Refusal}
 use Rattle.data.specs.declared.Refusal.TheVariants as No
-use Rattle.data.specs.declared.Outcome.TheVariants.{Done}
+use Rattle.std.specs.Prelude.{Ok}
 use Rattle.data.specs.declared.State.{State}
 use Rattle.data.specs.declared.Taken.{Taken}
 use Rattle.data.specs.Basics.{one, each}
@@ -95,13 +95,13 @@ pub data Does (st : State) (l : Line) (st' : State) : Type 0 where
   marks : (w : ℕ) → st.outs < 64 → w < st.n → st.low ≤ w → l ≡ L.Out w → st' ≡ marked st w → Does st l st'
 
 -- the test passed, if the line was taken
-tested : (b : Bool) (st : State) (f : Refusal) (l : Line) (y : Taken) → (b ≡ true → y.outcome ≡ Done → Does st l y.state)
-    → (cond b y (not_taken f st)).outcome ≡ Done → Does st l (cond b y (not_taken f st)).state
+tested : (b : Bool) (st : State) (f : Refusal) (l : Line) (y : Taken) → (b ≡ true → y.outcome ≡ Ok tt → Does st l y.state)
+    → (cond b y (not_taken f st)).outcome ≡ Ok tt → Does st l (cond b y (not_taken f st)).state
 tested true st f l y g h = g refl h
 tested false st f l y g h = not_done h
 
 make_does : (st : State) (w : ℕ) (k : Kind) (a b : ℕ) (l : Line) → (earlier w k a b ≡ true → Made w k a b) → l ≡ line_of_kind w k a b
-    → (make st w k a b).outcome ≡ Done → Does st l (make st w k a b).state
+    → (make st w k a b).outcome ≡ Ok tt → Does st l (make st w k a b).state
 unfolding make is_next has_room
 make_does st w k a b l m e h =
     tested (eqb w st.n && eqb st.outs 0) st No.Next l _
@@ -115,7 +115,7 @@ make_does st w k a b l m e h =
     makes k a b (eqb-true st.outs 0 t.1) (subst (λ (i : ℕ). Made i k a b) n (m q)) (ltb-true st.n 128 v.0)
     (leb-true (st.rands + one (is_rand k)) 64 v.1) (leb-true (st.pubs + one (is_pub k)) 16 u.1) (e ∙ ap (λ (i : ℕ). line_of_kind i k a b) n) refl))) h
 
-mark_does : (st : State) (w : ℕ) → (mark_out st w).outcome ≡ Done → Does st (L.Out w) (mark_out st w).state
+mark_does : (st : State) (w : ℕ) → (mark_out st w).outcome ≡ Ok tt → Does st (L.Out w) (mark_out st w).state
 unfolding mark_out
 mark_does st w h =
     tested (ltb st.outs 64) st No.Ceiling (L.Out w) _
@@ -127,7 +127,7 @@ mark_does st w h =
 two_earlier : (w a b : ℕ) → (ltb a w && (ltb b w && true)) ≡ true → (a < w) × (b < w)
 two_earlier w a b h = let t = both (ltb a w) (ltb b w && true) h in (ltb-true a w t.0, ltb-true b w (both (ltb b w) true t.1).0)
 
-pub does : (st : State) (l : Line) → (take_line st l).outcome ≡ Done → Does st l (take_line st l).state
+pub does : (st : State) (l : Line) → (take_line st l).outcome ≡ Ok tt → Does st l (take_line st l).state
 unfolding take_line earlier each operands_of line_of_kind
 does st L.Bad h = not_done h
 does st (L.Head s d) h = not_done h

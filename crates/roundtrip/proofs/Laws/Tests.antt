@@ -4,10 +4,10 @@ use Rattle.std.proofs.Common.{ap, ◌∙◌, arith}
 use Rattle.data.specs.Basics.{one, tally}
 use Rattle.data.proofs.Laws.Tests.{wire_cases, tally_ext}
 use Rattle.data.specs.declared.Refusal.{Refusal}
-use Rattle.data.specs.declared.Outcome.TheVariants.{Done, Refused}
+use Rattle.std.specs.Prelude.{Ok, Err}
 
 -- what is refused is not done
-pub not_done : {X : Type 0} {f : Refusal} → Refused f ≡ Done → X
+pub not_done : {X : Type 0} {f : Refusal} → Err f ≡ Ok tt → X
 not_done e = let z : ◌≡◌ {A = ℕ} 0 1 = cc in let w : ⊥ = omega arith in absurd w
 
 pub tally_none : (m : ℕ) (f : ℕ → Bool) → ((u : ℕ) → u < m → f u ≡ false) → tally m f ≡ 0

@@ -16,8 +16,8 @@ use Rattle.document.specs.Lent.{lent, lent_needing, lent_padding}
 use Rattle.data.proofs.Laws.Tests.{cond_true, true_leb}
 use Rattle.data.specs.declared.Refusal.{Refusal}
 use Rattle.data.specs.declared.Refusal.TheVariants as No
-use Rattle.data.specs.declared.Outcome.{Outcome}
-use Rattle.data.specs.declared.Outcome.TheVariants.{Done, Refused}
+use Rattle.data.specs.Refusals.{Outcome}
+use Rattle.std.specs.Prelude.{Ok, Err}
 use Rattle.data.specs.declared.Wire.{Wire}
 use Rattle.data.specs.declared.Shape.{Shape}
 use Rattle.data.specs.declared.ProbeSet.{ProbeSet}
@@ -92,21 +92,21 @@ module _ (σ : Shape) (ws : List Wire) (t : ℕ) (set : ProbeSet) where
       }) needed opens
 
   needed_answer : Routine → Needed
-  needed_answer R = record { outcome = Done; shares = needed_shares R (held set); undecided = is_open plain R t (held set) }
+  needed_answer R = record { outcome = Ok tt; shares = needed_shares R (held set); undecided = is_open plain R t (held set) }
 
   needing_asks : lent σ ws (needed_not No.Records) (λ R. set_refusal R t set needed_not (needed_answer R)) ≡ lent_needing σ ws t set
   unfolding needed_answer lent_needing needing
   needing_asks = refl
 
-  pub needing_not : (f : Refusal) → checked σ ws t set ≡ Refused f → needed_not f ≡ lent_needing σ ws t set
+  pub needing_not : (f : Refusal) → checked σ ws t set ≡ Err f → needed_not f ≡ lent_needing σ ws t set
   needing_not f e =
       ap (λ (o : Outcome). settled o needed_not (needed_answer R)) (sym e) ∙ by_outcome σ ws t set needed_not needed_answer ∙ needing_asks
 
-  pub needing_done : checked σ ws t set ≡ Done → (x : Observed) → x ≡ observed_of R t set
-      → ◌≡◌ {A = Needed} (record { outcome = Done; shares = x.shares; undecided = x.undecided }) (lent_needing σ ws t set)
+  pub needing_done : checked σ ws t set ≡ Ok tt → (x : Observed) → x ≡ observed_of R t set
+      → ◌≡◌ {A = Needed} (record { outcome = Ok tt; shares = x.shares; undecided = x.undecided }) (lent_needing σ ws t set)
   unfolding needed_answer observed_of
   needing_done e x told =
-      ap {B = Needed} (λ (y : Observed). record { outcome = Done; shares = y.shares; undecided = y.undecided }) told
+      ap {B = Needed} (λ (y : Observed). record { outcome = Ok tt; shares = y.shares; undecided = y.undecided }) told
       ∙ ap (λ (o : Outcome). settled o needed_not (needed_answer R)) (sym e) ∙ by_outcome σ ws t set needed_not needed_answer ∙ needing_asks
 
   padded_answer : Routine → Padded
@@ -117,16 +117,16 @@ module _ (σ : Shape) (ws : List Wire) (t : ℕ) (set : ProbeSet) where
   unfolding padded_answer lent_padding padding
   padding_asks = refl
 
-  pub padding_not : (f : Refusal) → checked σ ws t set ≡ Refused f → padded_not f ≡ lent_padding σ ws t set
+  pub padding_not : (f : Refusal) → checked σ ws t set ≡ Err f → padded_not f ≡ lent_padding σ ws t set
   padding_not f e =
       ap (λ (o : Outcome). settled o padded_not (padded_answer R)) (sym e) ∙ by_outcome σ ws t set padded_not padded_answer ∙ padding_asks
 
   -- 16 is never given: a run has no more steps than there are wires
-  pub padding_done : checked σ ws t set ≡ Done → (x : Observed) → x ≡ observed_of R t set
-      → ◌≡◌ {A = Padded} (record { outcome = Done; steps = x.steps; len = x.len; undecided = x.undecided }) (lent_padding σ ws t set)
+  pub padding_done : checked σ ws t set ≡ Ok tt → (x : Observed) → x ≡ observed_of R t set
+      → ◌≡◌ {A = Padded} (record { outcome = Ok tt; steps = x.steps; len = x.len; undecided = x.undecided }) (lent_padding σ ws t set)
   unfolding padded_answer step_list observed_of
   padding_done e x told =
       let few = few_steps σ ws (passed_of σ ws t set e).good (held set) in
-      ap {B = Padded} (λ (y : Observed). record { outcome = Done; steps = y.steps; len = y.len; undecided = y.undecided }) told
+      ap {B = Padded} (λ (y : Observed). record { outcome = Ok tt; steps = y.steps; len = y.len; undecided = y.undecided }) told
       ∙ sym (cond_true _ _ (true_leb (length (steps R (held set))) 128 few))
       ∙ ap (λ (o : Outcome). settled o padded_not (padded_answer R)) (sym e) ∙ by_outcome σ ws t set padded_not padded_answer ∙ padding_asks

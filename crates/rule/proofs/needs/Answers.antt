@@ -7,15 +7,15 @@ use Rattle.rule.proofs.needs.Goals as goal
 pub observe-seen-requires : goal.observe-seen-requires
 observe-seen-requires c = let t = c in
     let a = t.args in
-    passed_of a.listing.shape a.listing.wires a.t a.set (sym t.check_set-outcome.ensures ∙ c.in-Done.is)
+    passed_of a.listing.shape a.listing.wires a.t a.set (sym t.check_set-outcome.ensures ∙ c.in-Ok.is)
 
-pub returns-in-Refused : goal.returns-in-Refused
-returns-in-Refused c = let t = c in
+pub returns-in-Err : goal.returns-in-Err
+returns-in-Err c = let t = c in
     let a = t.args in
     c.needed_not.ensures
-    ∙ needing_not a.listing.shape a.listing.wires a.t a.set _ (sym t.check_set-outcome.ensures ∙ c.in-Refused.is)
+    ∙ needing_not a.listing.shape a.listing.wires a.t a.set _ (sym t.check_set-outcome.ensures ∙ c.in-Err.is)
 
-pub returns-in-Done : goal.returns-in-Done
-returns-in-Done c = let t = c in
+pub returns-in-Ok : goal.returns-in-Ok
+returns-in-Ok c = let t = c in
     let a = t.args in
-    needing_done a.listing.shape a.listing.wires a.t a.set (sym t.check_set-outcome.ensures ∙ c.in-Done.is) _ c.observe-seen.ensures
+    needing_done a.listing.shape a.listing.wires a.t a.set (sym t.check_set-outcome.ensures ∙ c.in-Ok.is) _ c.observe-seen.ensures

@@ -7,16 +7,16 @@ use Rattle.rule.proofs.pads.Goals as goal
 pub observe-seen-requires : goal.observe-seen-requires
 observe-seen-requires c = let t = c in
     let a = t.args in
-    passed_of a.listing.shape a.listing.wires a.t a.set (sym t.check_set-outcome.ensures ∙ c.in-Done.is)
+    passed_of a.listing.shape a.listing.wires a.t a.set (sym t.check_set-outcome.ensures ∙ c.in-Ok.is)
 
-pub returns-in-Refused : goal.returns-in-Refused
-returns-in-Refused c = let t = c in
+pub returns-in-Err : goal.returns-in-Err
+returns-in-Err c = let t = c in
     let a = t.args in
     c.padded_not.ensures
-    ∙ padding_not a.listing.shape a.listing.wires a.t a.set _ (sym t.check_set-outcome.ensures ∙ c.in-Refused.is)
+    ∙ padding_not a.listing.shape a.listing.wires a.t a.set _ (sym t.check_set-outcome.ensures ∙ c.in-Err.is)
 
-pub returns-in-Done : goal.returns-in-Done
-returns-in-Done c = let t = c in
+pub returns-in-Ok : goal.returns-in-Ok
+returns-in-Ok c = let t = c in
     let a = t.args in
-    let done = sym t.check_set-outcome.ensures ∙ c.in-Done.is in
+    let done = sym t.check_set-outcome.ensures ∙ c.in-Ok.is in
     padding_done a.listing.shape a.listing.wires a.t a.set done _ c.observe-seen.ensures

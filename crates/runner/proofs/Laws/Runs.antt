@@ -11,7 +11,7 @@ use Rattle.data.proofs.Laws.Tests.{bool_cases, and_r}
 use Rattle.document.specs.Lent.{lent, lent_ran, lent_ran_into, RunsInto}
 use Rattle.document.specs.Routine.{well_formed, routine_of, records_fit}
 use Rattle.document.specs.Running.{bits_fit, run_refusal, ran, ran_into}
-use Rattle.data.specs.declared.Outcome.TheVariants.{Done}
+use Rattle.std.specs.Prelude.{Ok}
 use Rattle.data.specs.declared.Refusal.TheVariants.{Records, Bits, Buffer}
 use Rattle.data.specs.declared.Shape.{Shape}
 use Rattle.data.specs.declared.Wire.{Wire}
@@ -66,7 +66,7 @@ module _ (σ : Shape) (ws : List Wire) (shares randoms publics : ℕ) (b : List 
           record { said = simp (leb_long, well, f, z, l); left = simp (leb_long, well, f, z, l) }
 
       pub run_done : {a : List ℕ} → t ≡ true → σ.n ≤ length b → a ≡ values σ.n ws shares randoms publics σ.n ++ drop σ.n b
-          → RunsInto σ ws shares randoms publics b (record { outcome = Done; len = σ.n }) a
+          → RunsInto σ ws shares randoms publics b (record { outcome = Ok tt; len = σ.n }) a
       unfolding lent lent_ran lent_ran_into ran ran_into run_refusal
       run_done e h k =
           let f = bits_told counted tested e in

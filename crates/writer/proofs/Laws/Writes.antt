@@ -8,7 +8,7 @@ use Rattle.data.proofs.Laws.Tests.{bool_cases, and_r}
 use Rattle.document.specs.Lent.{lent, lent_written, lent_written_into, WritesInto}
 use Rattle.document.specs.Routine.{well_formed, routine_of, records_fit}
 use Rattle.document.specs.Writing.{text_of, write_refusal, written, written_into}
-use Rattle.data.specs.declared.Outcome.TheVariants.{Done}
+use Rattle.std.specs.Prelude.{Ok}
 use Rattle.data.specs.declared.Refusal.TheVariants.{Records, Buffer}
 use Rattle.data.specs.declared.Shape.{Shape}
 use Rattle.data.specs.declared.Wire.{Wire}
@@ -45,7 +45,7 @@ module _ (σ : Shape) (ws : List Wire) (b : List ℕ) where
         record { said = simp (long, well, text, l); left = simp (long, well, text, l) }
 
     pub write_done : {r : ℕ} {c : List ℕ} → length (text_parts σ ws) ≤ length b → Put b 0 (text_parts σ ws) r c →
-        WritesInto σ ws b (record { outcome = Done; len = r }) c
+        WritesInto σ ws b (record { outcome = Ok tt; len = r }) c
     unfolding lent lent_written lent_written_into written written_into write_refusal
     write_done {r} h p =
         let l = le-leb (length (text_parts σ ws)) (length b) h in

@@ -10,7 +10,7 @@ use Rattle.data.proofs.Laws.Placing.{rank_fits, may_add_room, may_add_low, added
 use Rattle.data.specs.Placing.{places_with}
 use Rattle.data.specs.ProbeSets.{may_add}
 use Rattle.data.specs.declared.Added.{Added}
-use Rattle.data.specs.declared.Outcome.TheVariants.{Done}
+use Rattle.std.specs.Prelude.{Ok}
 use Rattle.data.proofs.ProbeSet.add.Goals as goal
 
 pub returns-then-not-may_add : goal.returns-then-not-may_add
@@ -43,6 +43,6 @@ pub returns : goal.returns
 returns c = let s = c in
     let may : may_add s.args.self s.args.w ≡ true = sym c.may_add.ensures ∙ c.if-not-may_add.false in
     let l : length s.args.self.places ≡ 4 = search rules in
-    ap {B = Added} (λ (ps : List ℕ). record { outcome = Done; set = record { places = ps; len = s.args.self.len + 1 } })
+    ap {B = Added} (λ (ps : List ℕ). record { outcome = Ok tt; set = record { places = ps; len = s.args.self.len + 1 } })
     (c.places_with.ensures ∙ ap (λ (k : ℕ). places_with s.args.self.places s.args.self.len k s.args.w) c.rank_of-k.ensures)
     ∙ added s.args.self s.args.w l may
