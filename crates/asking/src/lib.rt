@@ -15,40 +15,35 @@ pub fn order_fits(d: usize, t: usize) -> bool
 }
 
 // Each held number is a wire's.
-fn all_named(places: [u8; 4], len: usize, n: usize) -> bool
-    requires { len ≤ 4 }
-    ensures { result ≡ each (λ w. ltb w n) (take len places) }
+fn all_named(held: &[u8], n: usize) -> bool
+    ensures { result ≡ each (λ w. ltb w n) held.now }
 {
-    let mut i = 0;
-    while i < len {
-        if n <= places[i] as usize {
+    for w in held {
+        if n <= *w as usize {
             return false;
         }
-        i += 1;
     }
     true
 }
 
 // The set is not empty, no larger than the order, ascending, and names wires only.
+#[tactic(auto, using(crate::proofs::Laws::Checks::empty_refused, crate::proofs::Laws::Checks::large_refused, crate::proofs::Laws::Checks::unordered_refused, crate::proofs::Laws::Checks::named_decides))]
 fn probes_fit(set: ProbeSet, n: usize, t: usize) -> bool
     requires { t ≤ 4 }
     ensures { result ≡ probes_in n t set }
 {
-    let places = set.places;
-    let len = set.len;
-    if len == 0 {
+    if set.len == 0 {
         return false;
     }
-    if t < len {
+    if t < set.len {
         return false;
     }
-    if !data::is_ascending(places, len) {
-        return false;
-    }
-    all_named(places, len, n)
+    let held = &set.places[..set.len];
+    data::is_ascending(held) && all_named(held, n)
 }
 
 // The tests of a call on one set, in their order: the first refusal, or none.
+#[tactic(auto, using(crate::proofs::Laws::Checks::order_high, crate::proofs::Laws::Checks::check_records, crate::proofs::Laws::Checks::check_order, crate::proofs::Laws::Checks::check_probes, crate::proofs::Laws::Checks::check_passes))]
 pub fn check_set(listing: Listing, t: usize, set: ProbeSet) -> Result<(), Refusal>
     ensures { result ≡ checked listing.shape listing.wires t set }
 {

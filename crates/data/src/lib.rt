@@ -4,10 +4,9 @@
 #![tactic(auto)]
 
 ghost use Rattle.std.specs.Prelude.{◌≡◌, ◌+◌, ◌≤◌, ◌<◌, min, take, get_or};
-ghost use Rattle.data.specs.Basics.{elem};
 ghost use Rattle.data.specs.ProbeSets.{ascending, empty_set, may_add, adding};
 ghost use Rattle.data.specs.Refusals.{number_of};
-ghost use Rattle.data.specs.Placing.{rank, placed_at, places_with};
+ghost use Rattle.data.specs.Placing.{rank};
 
 // 1.3, 8.9: bytes by name: what parts the fields of a text, what closes a line, what parts printed fields, and the digit 0.
 pub const TAB: u8 = 9;
@@ -247,99 +246,48 @@ impl Refusal {
 pub fn lower(a: usize, b: usize) -> usize
     ensures { result ≡ min a b }
 {
-    if a < b { a } else { b }
+    a.min(b)
 }
 
 // 4.3: each held wire is above the one before it.
-pub fn is_ascending(places: [u8; 4], len: usize) -> bool
-    requires { len ≤ 4 }
-    ensures { result ≡ ascending (take len places) }
+#[tactic(auto, using(crate::proofs::Laws::Placing::ascends_on, crate::proofs::Laws::Placing::ascends_not, crate::proofs::Laws::Placing::ascends_end))]
+pub fn is_ascending(held: &[u8]) -> bool
+    ensures { result ≡ ascending held.now }
 {
-    let mut i = 0;
-    while i + 1 < len {
-        if places[i + 1] <= places[i] {
+    for i in 1..held.len() {
+        if held[i] <= held[i - 1] {
             return false;
         }
-        i += 1;
     }
     true
 }
 
-// The wire is held.
-fn holds(places: [u8; 4], len: usize, w: usize) -> bool
-    requires { len ≤ 4 }
-    ensures { result ≡ elem w (take len places) }
-{
-    let mut i = 0;
-    while i < len {
-        if w == places[i] as usize {
-            return true;
-        }
-        i += 1;
-    }
-    false
-}
-
 // How many held wires stand before the first that is above w.
-fn rank_of(places: [u8; 4], len: usize, w: usize) -> usize
-    requires { len ≤ 4 }
-    ensures { result ≡ rank w (take len places) }
+#[tactic(auto, using(crate::proofs::Laws::Placing::rank_here, crate::proofs::Laws::Placing::rank_later, crate::proofs::Laws::Placing::rank_none))]
+fn rank_of(held: &[u8], w: u8) -> usize
+    ensures { result ≡ rank w held.now }
 {
-    let mut i = 0;
-    while i < len {
-        if w < places[i] as usize {
+    for (i, p) in held.iter().enumerate() {
+        if w < *p {
             return i;
         }
-        i += 1;
     }
-    i
+    held.len()
 }
 
 // 4.6: an addition is not refused.
-fn may_add(set: ProbeSet, w: usize) -> bool
-    ensures { result ≡ may_add set w }
+#[tactic(auto, using(crate::proofs::Laws::Placing::full_refused, crate::proofs::Laws::Placing::high_refused, crate::proofs::Laws::Placing::contained_refused, crate::proofs::Laws::Placing::not_contained_decides))]
+fn may_add(set: &ProbeSet, w: usize) -> bool
+    ensures { result ≡ may_add set.now w }
 {
-    let places = set.places;
-    let len = set.len;
-    if 4 <= len {
+    if 4 <= set.len {
         return false;
     }
     if 127 < w {
         return false;
     }
-    if holds(places, len, w) {
-        return false;
-    }
-    is_ascending(places, len)
-}
-
-// What stands at place i once w is put in at place k: those from k to the end move up by one.
-fn placed_at(places: [u8; 4], len: usize, k: usize, w: u8, i: usize) -> u8
-    requires { (len < 4) × (k ≤ len) × (i < 4) }
-    ensures { result ≡ placed_at places len k w i }
-{
-    if i == k {
-        return w;
-    }
-    if i < k {
-        return places[i];
-    }
-    if i <= len {
-        return places[i - 1];
-    }
-    places[i]
-}
-
-// The places once w is put in at place k.
-fn places_with(places: [u8; 4], len: usize, k: usize, w: u8) -> [u8; 4]
-    requires { (len < 4) × (k ≤ len) }
-    ensures { result ≡ places_with places len k w }
-{
-    let a = placed_at(places, len, k, w, 0);
-    let b = placed_at(places, len, k, w, 1);
-    let c = placed_at(places, len, k, w, 2);
-    let d = placed_at(places, len, k, w, 3);
-    [a, b, c, d]
+    let held = &set.places[..set.len];
+    !held.contains(&(w as u8)) && is_ascending(held)
 }
 
 impl ProbeSet {
@@ -348,32 +296,34 @@ impl ProbeSet {
         ensures { result ≡ empty_set }
     {
         ProbeSet {
-            places: [0u8; 4],
+            places: [0; 4],
             len: 0,
         }
     }
 
     // 4.5 to 4.10: the set with w put in at its place, or as it came.
+    #[tactic(auto, using(crate::proofs::Laws::Placing::may_add_room, crate::proofs::Laws::Placing::may_add_low, crate::proofs::Laws::Placing::rank_fits, crate::proofs::Laws::Placing::held_long, crate::proofs::Laws::Placing::added, crate::proofs::Laws::Placing::not_added))]
     pub fn add(self, w: usize) -> Added
         ensures { result ≡ adding self w }
     {
-        let places = self.places;
-        let len = self.len;
-        if !may_add(self, w) {
-            let set = ProbeSet { places, len };
+        if !may_add(&self, w) {
             return Added {
                 outcome: Err(Refusal::Probes),
-                set,
+                set: self,
             };
         }
-        let k = rank_of(places, len, w);
-        let set = ProbeSet {
-            places: places_with(places, len, k, w as u8),
-            len: len + 1,
-        };
+        let ProbeSet { mut places, len } = self;
+        let w = w as u8;
+        let k = rank_of(&places[..len], w);
+        // those from k on move up by one
+        places.copy_within(k..len, k + 1);
+        places[k] = w;
         Added {
             outcome: Ok(()),
-            set,
+            set: ProbeSet {
+                places,
+                len: len + 1,
+            },
         }
     }
 }

@@ -1,5 +1,5 @@
 -- The tests of a call on one set, part by part; their outcome in the stated order, and an answer by it.
-use Rattle.std.specs.Prelude.{◌≡◌, refl, true, false, ◌&&◌, cond, List, leb, length, get_or, take, drop}
+use Rattle.std.specs.Prelude.{◌≡◌, refl, true, false, ◌&&◌, cond, List, leb, length, get_or, drop}
 use Rattle.std.proofs.Common.{sym, ◌∙◌, length-take-le}
 use Rattle.std.proofs.Math.Path.{ap}
 use Rattle.std.proofs.Math.Bool.{Bool}
@@ -9,7 +9,8 @@ use Rattle.std.proofs.Math.Dec.{ltb}
 use Rattle.data.specs.Basics.{each}
 use Rattle.data.specs.ProbeSets.{held, ascending}
 use Rattle.data.proofs.Laws.Tests.{clash, cond_true, cond_false, and_l, and_r, true_ltb, leb_true, true_leb, bool_cases}
-use Rattle.data.proofs.Laws.Placing.{held_next, held_ends}
+use Rattle.std.proofs.Common.{drop_of_length-le}
+use Rattle.data.proofs.Laws.Placing.{from_place}
 use Rattle.document.specs.Routine.{Routine, routine_of, well_formed, records_fit}
 use Rattle.document.specs.Judgements.{order_fits, probes_fit, set_refusal}
 use Rattle.document.specs.Lent.{lent}
@@ -43,21 +44,21 @@ module _ (n t : ℕ) (set : ProbeSet) where
   unfolding probes_in
   named_decides l h a = simp (true_ltb 0 set.len l, true_leb set.len t h, a)
 
--- the held wires from place i on are wires
-module _ (P : List ℕ) (len n : ℕ) (fits : len ≤ length P) where
-  pub named_on : (i : ℕ) → i < len → get_or P i 0 < n → each (λ w. ltb w n) (drop i (take len P)) ≡ each (λ w. ltb w n) (drop (i + 1) (take len P))
+-- the numbers from place i on are wires
+module _ (xs : List ℕ) (n : ℕ) where
+  pub named_on : (i : ℕ) → i < length xs → get_or xs i 0 < n → each (λ w. ltb w n) (drop i xs) ≡ each (λ w. ltb w n) (drop (i + 1) xs)
   unfolding each
-  named_on i l h = ap (each (λ w. ltb w n)) (held_next P len fits i l)
-      ∙ ap (λ (b : Bool). b && each (λ w. ltb w n) (drop (i + 1) (take len P))) (true_ltb (get_or P i 0) n h)
+  named_on i l h = ap (each (λ w. ltb w n)) (from_place xs i l)
+      ∙ ap (λ (b : Bool). b && each (λ w. ltb w n) (drop (i + 1) xs)) (true_ltb (get_or xs i 0) n h)
 
-  pub named_not : (i : ℕ) → i < len → n ≤ get_or P i 0 → each (λ w. ltb w n) (drop i (take len P)) ≡ false
+  pub named_not : (i : ℕ) → i < length xs → n ≤ get_or xs i 0 → each (λ w. ltb w n) (drop i xs) ≡ false
   unfolding each
-  named_not i l h = ap (each (λ w. ltb w n)) (held_next P len fits i l)
-      ∙ ap (λ (b : Bool). b && each (λ w. ltb w n) (drop (i + 1) (take len P))) (le-ltb (get_or P i 0) n h)
+  named_not i l h = ap (each (λ w. ltb w n)) (from_place xs i l)
+      ∙ ap (λ (b : Bool). b && each (λ w. ltb w n) (drop (i + 1) xs)) (le-ltb (get_or xs i 0) n h)
 
-  pub named_end : (i : ℕ) → len ≤ i → each (λ w. ltb w n) (drop i (take len P)) ≡ true
+  pub named_end : (i : ℕ) → length xs ≤ i → each (λ w. ltb w n) (drop i xs) ≡ true
   unfolding each
-  named_end i l = ap (each (λ w. ltb w n)) (held_ends P len fits i l)
+  named_end i l = ap (each (λ w. ltb w n)) (drop_of_length-le xs {i = i} l)
 
 -- ---- the outcome of the tests
 
@@ -80,7 +81,7 @@ settles true true false refuse answer = refl
 settles true false p refuse answer = refl
 settles false o p refuse answer = refl
 
-all_three : (g o p : Bool) → answer_in_order g o p Err (Ok tt) ≡ Ok tt → (g ≡ true) × (o ≡ true) × (p ≡ true)
+all_three : (g o p : Bool) → ◌≡◌ {A = Outcome} (answer_in_order g o p Err (Ok tt)) (Ok tt) → (g ≡ true) × (o ≡ true) × (p ≡ true)
 all_three true true true e = (refl, refl, refl)
 all_three true true false e = clash (ap is_done e) refl
 all_three true false p e = clash (ap is_done e) refl
