@@ -85,25 +85,25 @@ pub enum Line {
     Out(usize),
 }
 
-// 7.1 to 7.16: the refusals, in the order of their numbers.
+// 7.1 to 7.16: the refusals by their numbers.
 #[derive(Clone, Copy, PartialEq, Eq)]
 pub enum Refusal {
-    Length,
-    Byte,
-    Header,
-    Range,
-    Form,
-    Next,
-    Operand,
-    Ceiling,
-    Output,
-    Lent,
-    Records,
-    Order,
-    Probes,
-    Bits,
-    Buffer,
-    Steps,
+    Length = 1,
+    Byte = 2,
+    Header = 3,
+    Range = 4,
+    Form = 5,
+    Next = 6,
+    Operand = 7,
+    Ceiling = 8,
+    Output = 9,
+    Lent = 10,
+    Records = 11,
+    Order = 12,
+    Probes = 13,
+    Bits = 14,
+    Buffer = 15,
+    Steps = 16,
 }
 
 // 1.41: what was read so far, S, D, n, how many randoms, publics and outputs, one above the last output (0 before any), and the records.
@@ -221,24 +221,7 @@ impl Refusal {
     pub fn number(self) -> u64
         ensures { result ≡ number_of self }
     {
-        match self {
-            Refusal::Length => 1,
-            Refusal::Byte => 2,
-            Refusal::Header => 3,
-            Refusal::Range => 4,
-            Refusal::Form => 5,
-            Refusal::Next => 6,
-            Refusal::Operand => 7,
-            Refusal::Ceiling => 8,
-            Refusal::Output => 9,
-            Refusal::Lent => 10,
-            Refusal::Records => 11,
-            Refusal::Order => 12,
-            Refusal::Probes => 13,
-            Refusal::Bits => 14,
-            Refusal::Buffer => 15,
-            Refusal::Steps => 16,
-        }
+        self as u64
     }
 }
 
