@@ -4,7 +4,7 @@ use mathlib.Core.Bool.{Bool, true, false, ◌&&◌, and-true}
 use Prim.Native.Nat.{ℕ, ◌+◌, ◌≤◌, ◌<◌}
 use native.Mathlib.Omega.{arith}
 use lib.Dec.{leb, ltb}
-use borrow.Author.Tests.{leb-true, ltb-true, lt-ltb, le-ltb, lt-leb, le-leb}
+use borrow.Author.Tests.{leb-true, ltb-true}
 use Rattle.data.specs.Basics.{one, each}
 use Rattle.data.proofs.Laws.Tests.{and_l, and_r}
 use Rattle.document.specs.Routine.{is_rand, is_pub, operands_of}
@@ -46,20 +46,3 @@ room_is st k h =
     let z = leb (st.pubs + one (is_pub k)) 16 in
     let e = and_l (x && y) z h in
     record { wires = ltb-true _ _ (and_l x y e); rands = leb-true _ _ (and_r x y e); pubs = leb-true _ _ (and_r (x && y) z h) }
-
-module _ (st : State) (k : Kind) where
-  pub no_wire : 128 ≤ st.n → false ≡ has_room st k
-  unfolding has_room
-  no_wire h = simp (le-ltb _ _ h)
-
-  pub no_rand : {r : ℕ} → r ≡ one (is_rand k) → st.n < 128 → 64 < st.rands + r → false ≡ has_room st k
-  unfolding has_room
-  no_rand e h i = simp (lt-ltb _ _ h, ← e, lt-leb _ _ i)
-
-  pub no_pub : {r p : ℕ} → r ≡ one (is_rand k) → p ≡ one (is_pub k) → st.n < 128 → st.rands + r ≤ 64 → 16 < st.pubs + p → false ≡ has_room st k
-  unfolding has_room
-  no_pub e f h i j = simp (lt-ltb _ _ h, ← e, le-leb _ _ i, ← f, lt-leb _ _ j)
-
-  pub some_room : {r p : ℕ} → r ≡ one (is_rand k) → p ≡ one (is_pub k) → st.n < 128 → st.rands + r ≤ 64 → st.pubs + p ≤ 16 → true ≡ has_room st k
-  unfolding has_room
-  some_room e f h i j = simp (lt-ltb _ _ h, ← e, le-leb _ _ i, ← f, le-leb _ _ j)
