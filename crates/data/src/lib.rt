@@ -52,17 +52,9 @@ pub struct Listing {
     pub wires: [Wire; 128],
 }
 
-// 1.6: a field read as a number, decimal, of one to three digits.
-#[derive(Clone, Copy, PartialEq, Eq)]
-pub enum Number {
-    Bad,
-    Is(usize),
-}
-
-// 1.8: a field read as a word.
+// 1.8: the words that a line may begin with.
 #[derive(Clone, Copy, PartialEq, Eq)]
 pub enum Word {
-    Other,
     Routine,
     Rand,
     Pub,
@@ -72,10 +64,9 @@ pub enum Word {
     Out,
 }
 
-// 1.9, 1.10: a line by its form, its word and its numbers, or none that a routine text has.
+// 1.9: a line by its form, its word and its numbers.
 #[derive(Clone, Copy, PartialEq, Eq)]
 pub enum Line {
-    Bad,
     Head(usize, usize),
     Rand(usize),
     Pub(usize),
@@ -117,13 +108,6 @@ pub struct State {
     pub outs: usize,
     pub low: usize,
     pub wires: [Wire; 128],
-}
-
-// 1.41: what became of one line, and the state after it.
-#[derive(Clone, Copy, PartialEq, Eq)]
-pub struct Taken {
-    pub outcome: Result<(), Refusal>,
-    pub state: State,
 }
 
 // 1.36: a read routine, or a refusal with the line at fault.

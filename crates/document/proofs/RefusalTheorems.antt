@@ -16,9 +16,10 @@ use Rattle.document.specs.Judgements.{told, needing, no_step, padding, step_list
 use Rattle.document.specs.Lent.{read_for, filled_with, lent_read, lent_read_into, lent, lent_written, lent_written_into, lent_ran, lent_ran_into}
 use Rattle.document.specs.Lent.{lent_needing, lent_padding, lent_judged}
 use Rattle.data.proofs.Laws.Tests.{cond_cases, cond_both, cond_of, cond_and}
+use Rattle.data.specs.declared.Refusal.{Refusal}
 use Rattle.data.specs.declared.Refusal.TheVariants as No
 use Rattle.data.specs.Refusals.{Outcome}
-use Rattle.std.specs.Prelude.{Ok, Err}
+use Rattle.std.specs.Prelude.{Option, None, Some, Result, Ok, Err}
 use Rattle.data.specs.declared.Verdict.TheVariants as Says
 use Rattle.data.specs.declared.Verdict.{Verdict}
 use Rattle.data.specs.declared.Kind.{Kind}
@@ -27,7 +28,6 @@ use Rattle.data.specs.declared.Line.TheVariants as L
 use Rattle.data.specs.declared.Wire.{Wire}
 use Rattle.data.specs.declared.Shape.{Shape}
 use Rattle.data.specs.declared.State.{State}
-use Rattle.data.specs.declared.Taken.{Taken}
 use Rattle.data.specs.declared.Read.{Read}
 use Rattle.data.specs.declared.Listing.{Listing}
 use Rattle.data.specs.declared.Written.{Written}
@@ -43,8 +43,8 @@ use Rattle.data.specs.declared.Judged.{Judged}
 abbrev of_read : Read → ℕ
 of_read r = outcome_number r.outcome
 
-abbrev of_taken : Taken → ℕ
-of_taken r = outcome_number r.outcome
+abbrev of_taken : Result State Refusal → ℕ
+of_taken r = outcome_number r
 
 abbrev of_written : Written → ℕ
 of_written r = outcome_number r.outcome
@@ -76,31 +76,31 @@ reading_number text =
     cond_of of_read a _ _ ∙ ap (λ (k : ℕ). cond a k 1) (cond_of of_read (each letter text && eqb (get_or text (length text - 1) 0) lf) _ _)
 
 -- 7.3: 3 where the first line is no header
-pub no_header_number : (l : Line) (ls : List Line) → ((s d : ℕ) → l ≢ L.Head s d) → outcome_number (from_first (l ∷ ls)).outcome ≡ 3
+pub no_header_number : (l : Option Line) (ls : List (Option Line)) → ((s d : ℕ) → l ≢ Some (L.Head s d)) → outcome_number (from_first (l ∷ ls)).outcome ≡ 3
 unfolding from_first from_header
-no_header_number (L.Head s d) ls other = absurd (other s d refl)
-no_header_number L.Bad ls other = refl
-no_header_number (L.Rand w) ls other = refl
-no_header_number (L.Pub w) ls other = refl
-no_header_number (L.Xor w a b) ls other = refl
-no_header_number (L.And w a b) ls other = refl
-no_header_number (L.Not w a) ls other = refl
-no_header_number (L.Out w) ls other = refl
+no_header_number (Some (L.Head s d)) ls other = absurd (other s d refl)
+no_header_number None ls other = refl
+no_header_number (Some (L.Rand w)) ls other = refl
+no_header_number (Some (L.Pub w)) ls other = refl
+no_header_number (Some (L.Xor w a b)) ls other = refl
+no_header_number (Some (L.And w a b)) ls other = refl
+no_header_number (Some (L.Not w a)) ls other = refl
+no_header_number (Some (L.Out w)) ls other = refl
 
 -- 7.4: 4 for S or D out of range; what comes then is up to the later lines
-pub header_number : (s d : ℕ) (ls : List Line)
-    → outcome_number (from_first (L.Head s d ∷ ls)).outcome ≡ cond (in_range s d) (outcome_number (read_lines 2 (begun s d) ls).outcome) 4
+pub header_number : (s d : ℕ) (ls : List (Option Line))
+    → outcome_number (from_first (Some (L.Head s d) ∷ ls)).outcome ≡ cond (in_range s d) (outcome_number (read_lines 2 (begun s d) ls).outcome) 4
 unfolding from_first from_header
 header_number s d ls = cond_of of_read (in_range s d) _ _
 
 -- 7.5: 5 for a line of no form, and for a second header
-pub form_number : (st : State) (s d : ℕ) → (outcome_number (take_line st L.Bad).outcome ≡ 5) × (outcome_number (take_line st (L.Head s d)).outcome ≡ 5)
+pub form_number : (st : State) (s d : ℕ) → (outcome_number (take_line st None) ≡ 5) × (outcome_number (take_line st (Some (L.Head s d))) ≡ 5)
 unfolding take_line
 form_number st s d = (refl, refl)
 
 -- 7.6 to 7.8: of a wire line 6 for its number, then 7 for its operands, then 8 for a ceiling
 pub wire_number : (st : State) (w : ℕ) (k : Kind) (a b : ℕ)
-    → outcome_number (make st w k a b).outcome ≡ cond (is_next st w) (cond (earlier w k a b) (cond (has_room st k) 0 8) 7) 6
+    → outcome_number (make st w k a b) ≡ cond (is_next st w) (cond (earlier w k a b) (cond (has_room st k) 0 8) 7) 6
 unfolding make
 wire_number st w k a b =
     cond_of of_taken (is_next st w) _ _
@@ -109,7 +109,7 @@ wire_number st w k a b =
 
 -- 7.8, 7.9: of an `out` line 8 for the 65th output, then 9 for its wire
 pub out_number : (st : State) (w : ℕ)
-    → outcome_number (mark_out st w).outcome ≡ cond (ltb st.outs 64) (cond (ltb w st.n && leb st.low w) 0 9) 8
+    → outcome_number (mark_out st w) ≡ cond (ltb st.outs 64) (cond (ltb w st.n && leb st.low w) 0 9) 8
 unfolding mark_out
 out_number st w =
     cond_of of_taken (ltb st.outs 64) _ _ ∙ ap (λ (n : ℕ). cond (ltb st.outs 64) n 8) (cond_of of_taken (ltb w st.n && leb st.low w) _ _)
@@ -127,27 +127,27 @@ no_sizes = record { s = 0; d = 0; n = 0 }
 abbrev ReadsNothing : Read → Type 0
 ReadsNothing r = outcome_number r.outcome ≢ 0 → (r.listing.shape ≡ no_sizes) × (r.listing.wires ≡ blanks)
 
-lines_nothing : (k : ℕ) (st : State) (ls : List Line) → ReadsNothing (read_lines k st ls)
+lines_nothing : (k : ℕ) (st : State) (ls : List (Option Line)) → ReadsNothing (read_lines k st ls)
 unfolding read_lines
 lines_nothing k st [] = λ h. absurd (h refl)
-lines_nothing k st (l ∷ ls) = go (take_line st l).outcome (read_lines (k + 1) (take_line st l).state ls) (lines_nothing (k + 1) (take_line st l).state ls)
+lines_nothing k st (l ∷ ls) = go (take_line st l) (λ next. read_lines (k + 1) next ls) (λ next. lines_nothing (k + 1) next ls)
   where
-    go : (o : Outcome) (rest : Read) → ReadsNothing rest → ReadsNothing (onward o k rest)
-    go (Ok u) rest r = r
+    go : (o : Result State Refusal) (rest : State → Read) → ((next : State) → ReadsNothing (rest next)) → ReadsNothing (onward o k rest)
+    go (Ok next) rest r = r next
     go (Err f) rest r = λ _. (refl, refl)
 
-header_nothing : (l : Line) (ls : List Line) → ReadsNothing (from_header l ls)
+header_nothing : (l : Option Line) (ls : List (Option Line)) → ReadsNothing (from_header l ls)
 unfolding from_header
-header_nothing (L.Head s d) ls = cond_cases ReadsNothing (in_range s d) _ _ (λ _. lines_nothing 2 (begun s d) ls) (λ _ _. (refl, refl))
-header_nothing L.Bad ls = λ _. (refl, refl)
-header_nothing (L.Rand w) ls = λ _. (refl, refl)
-header_nothing (L.Pub w) ls = λ _. (refl, refl)
-header_nothing (L.Xor w a b) ls = λ _. (refl, refl)
-header_nothing (L.And w a b) ls = λ _. (refl, refl)
-header_nothing (L.Not w a) ls = λ _. (refl, refl)
-header_nothing (L.Out w) ls = λ _. (refl, refl)
+header_nothing (Some (L.Head s d)) ls = cond_cases ReadsNothing (in_range s d) _ _ (λ _. lines_nothing 2 (begun s d) ls) (λ _ _. (refl, refl))
+header_nothing None ls = λ _. (refl, refl)
+header_nothing (Some (L.Rand w)) ls = λ _. (refl, refl)
+header_nothing (Some (L.Pub w)) ls = λ _. (refl, refl)
+header_nothing (Some (L.Xor w a b)) ls = λ _. (refl, refl)
+header_nothing (Some (L.And w a b)) ls = λ _. (refl, refl)
+header_nothing (Some (L.Not w a)) ls = λ _. (refl, refl)
+header_nothing (Some (L.Out w)) ls = λ _. (refl, refl)
 
-first_nothing : (ls : List Line) → ReadsNothing (from_first ls)
+first_nothing : (ls : List (Option Line)) → ReadsNothing (from_first ls)
 unfolding from_first
 first_nothing [] = λ _. (refl, refl)
 first_nothing (l ∷ ls) = header_nothing l ls

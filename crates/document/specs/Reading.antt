@@ -1,5 +1,5 @@
 -- Reading a routine text (sections 1 and 7 of docs/SPECIFICATION.md). Refusal 10 is of the lent list, and is tested before all of this.
-use Rattle.std.specs.Prelude.{◌≡◌, Bool, true, false, ◌&&◌, ◌||◌, cond, List, [], ◌∷◌, ℕ, zero, suc, ◌+◌, ◌-◌, ◌*◌, ◌/◌, ◌%◌, eqb, ltb, leb, length, get_or, set, take, replicate}
+use Rattle.std.specs.Prelude.{◌≡◌, Bool, true, false, ◌&&◌, ◌||◌, cond, Option, None, Some, Result, Ok, Err, List, [], ◌∷◌, ℕ, zero, suc, ◌+◌, ◌-◌, ◌*◌, ◌/◌, ◌%◌, eqb, ltb, leb, length, get_or, set, take, replicate}
 use Rattle.data.specs.Basics.{one, each}
 use Rattle.document.specs.Routine.{whole_routine, Routine, blank, is_rand, is_pub, operands_of, in_range, routine_of}
 use Rattle.document.specs.Lines.{whole_lines, lines_in, digit, tab, lf}
@@ -10,21 +10,12 @@ use Rattle.data.specs.declared.Line.{Line}
 use Rattle.data.specs.declared.Line.TheVariants as L
 use Rattle.data.specs.declared.Refusal.{Refusal}
 use Rattle.data.specs.declared.Refusal.TheVariants as No
-use Rattle.data.specs.Refusals.{Outcome}
-use Rattle.std.specs.Prelude.{Ok, Err}
 use Rattle.data.specs.declared.State.{State}
-use Rattle.data.specs.declared.Taken.{Taken}
 use Rattle.data.specs.declared.Read.{Read}
 use Rattle.data.specs.declared.Shape.{Shape}
 use Rattle.data.specs.declared.Listing.{Listing}
 
 -- ---- one line
-
-abbrev pub taken : State → Taken
-taken st = record { outcome = Ok tt; state = st }
-
-abbrev pub not_taken : Refusal → State → Taken
-not_taken f st = record { outcome = Err f; state = st }
 
 -- 1.16, 1.26, 1.27: the state with the next wire made
 unfoldable pub made : State → Kind → ℕ → ℕ → State
@@ -69,29 +60,29 @@ unfoldable pub has_room : State → Kind → Bool
 has_room st k = ltb st.n 128 && leb (st.rands + one (is_rand k)) 64 && leb (st.pubs + one (is_pub k)) 16
 
 -- 1.42: a wire line is tested for its number, its operands and room
-unfoldable pub make : State → ℕ → Kind → ℕ → ℕ → Taken
+unfoldable pub make : State → ℕ → Kind → ℕ → ℕ → Result State Refusal
 make st w k a b =
     cond (is_next st w)
-    (cond (earlier w k a b) (cond (has_room st k) (taken (made st k a b)) (not_taken No.Ceiling st)) (not_taken No.Operand st))
-    (not_taken No.Next st)
+    (cond (earlier w k a b) (cond (has_room st k) (Ok (made st k a b)) (Err No.Ceiling)) (Err No.Operand))
+    (Err No.Next)
 
 -- 1.44, 7.8, 7.9: an `out` line is tested for room, and then for its wire
-unfoldable pub mark_out : State → ℕ → Taken
+unfoldable pub mark_out : State → ℕ → Result State Refusal
 mark_out st w =
     cond (ltb st.outs 64)
-    (cond (ltb w st.n && leb st.low w) (taken (marked st w)) (not_taken No.Output st))
-    (not_taken No.Ceiling st)
+    (cond (ltb w st.n && leb st.low w) (Ok (marked st w)) (Err No.Output))
+    (Err No.Ceiling)
 
--- 1.11, 1.42, 1.44, 7.5: a later line is tested for its form first
-unfoldable pub take_line : State → Line → Taken
-take_line st L.Bad = not_taken No.Form st
-take_line st (L.Head s d) = not_taken No.Form st
-take_line st (L.Rand w) = make st w K.Rand 0 0
-take_line st (L.Pub w) = make st w K.Pub 0 0
-take_line st (L.Xor w a b) = make st w K.Xor a b
-take_line st (L.And w a b) = make st w K.And a b
-take_line st (L.Not w a) = make st w K.Not a 0
-take_line st (L.Out w) = mark_out st w
+-- 1.11, 1.42, 1.44, 7.5: a later line is tested for its form first; it gives the state behind it, or a refusal
+unfoldable pub take_line : State → Option Line → Result State Refusal
+take_line st None = Err No.Form
+take_line st (Some (L.Head s d)) = Err No.Form
+take_line st (Some (L.Rand w)) = make st w K.Rand 0 0
+take_line st (Some (L.Pub w)) = make st w K.Pub 0 0
+take_line st (Some (L.Xor w a b)) = make st w K.Xor a b
+take_line st (Some (L.And w a b)) = make st w K.And a b
+take_line st (Some (L.Not w a)) = make st w K.Not a 0
+take_line st (Some (L.Out w)) = mark_out st w
 
 -- ---- the whole text
 
@@ -112,14 +103,14 @@ abbrev pub read_all : State → Read
 read_all st = record { outcome = Ok tt; line = 0; listing = record { shape = record { s = st.s; d = st.d; n = st.n }; wires = st.wires } }
 
 -- 1.41, 1.46: the first line that fails ends the reading, with its number, counted from 1
-abbrev pub onward : Outcome → ℕ → Read → Read
-onward (Ok u) k rest = rest
+abbrev pub onward : Result State Refusal → ℕ → (State → Read) → Read
+onward (Ok st) k rest = rest st
 onward (Err f) k rest = not_read f k
 
 -- 1.41: the lines from number k on
-unfoldable pub read_lines : ℕ → State → List Line → Read
+unfoldable pub read_lines : ℕ → State → List (Option Line) → Read
 read_lines k st [] = read_all st
-read_lines k st (l ∷ ls) = onward (take_line st l).outcome k (read_lines (k + 1) (take_line st l).state ls)
+read_lines k st (l ∷ ls) = onward (take_line st l) k (λ next. read_lines (k + 1) next ls)
 
 -- 1.14, 1.15, 1.25: the records of the first wires, which are shares and have no lines
 unfoldable pub share_records : ℕ → ℕ → List Wire
@@ -131,18 +122,18 @@ unfoldable pub begun : ℕ → ℕ → State
 begun s d = record { s = s; d = d; n = s * d; rands = 0; pubs = 0; outs = 0; low = 0; wires = share_records d (s * d) }
 
 -- 1.11, 1.40, 7.3, 7.4: the header is tested for its form, and then for its ranges
-unfoldable pub from_header : Line → List Line → Read
-from_header (L.Head s d) ls = cond (in_range s d) (read_lines 2 (begun s d) ls) (not_read No.Range 1)
-from_header L.Bad ls = not_read No.Header 1
-from_header (L.Rand w) ls = not_read No.Header 1
-from_header (L.Pub w) ls = not_read No.Header 1
-from_header (L.Xor w a b) ls = not_read No.Header 1
-from_header (L.And w a b) ls = not_read No.Header 1
-from_header (L.Not w a) ls = not_read No.Header 1
-from_header (L.Out w) ls = not_read No.Header 1
+unfoldable pub from_header : Option Line → List (Option Line) → Read
+from_header (Some (L.Head s d)) ls = cond (in_range s d) (read_lines 2 (begun s d) ls) (not_read No.Range 1)
+from_header None ls = not_read No.Header 1
+from_header (Some (L.Rand w)) ls = not_read No.Header 1
+from_header (Some (L.Pub w)) ls = not_read No.Header 1
+from_header (Some (L.Xor w a b)) ls = not_read No.Header 1
+from_header (Some (L.And w a b)) ls = not_read No.Header 1
+from_header (Some (L.Not w a)) ls = not_read No.Header 1
+from_header (Some (L.Out w)) ls = not_read No.Header 1
 
 -- 1.11, 7.3: the first line is the header
-unfoldable pub from_first : List Line → Read
+unfoldable pub from_first : List (Option Line) → Read
 from_first [] = not_read No.Header 1
 from_first (l ∷ ls) = from_header l ls
 

@@ -1,5 +1,5 @@
 -- The text of a routine, and writing it into a lent buffer (1.47, 1.48 and section 6 of docs/SPECIFICATION.md).
-use Rattle.std.specs.Prelude.{cond, List, [], ◌∷◌, ◌++◌, ℕ, zero, suc, ◌-◌, ◌*◌, leb, length, drop}
+use Rattle.std.specs.Prelude.{cond, Option, None, Some, List, [], ◌∷◌, ◌++◌, ℕ, zero, suc, ◌-◌, ◌*◌, leb, length, drop}
 use Rattle.document.specs.Routine.{Routine, size, wire, well_formed, whole_routine}
 use Rattle.document.specs.Lines.{text_of_lines}
 use Rattle.data.specs.declared.Kind.{Kind}
@@ -12,31 +12,31 @@ use Rattle.std.specs.Prelude.{Ok, Err}
 use Rattle.data.specs.declared.Written.{Written}
 
 -- 1.16, 1.48: the line that makes wire w, its operands in the order a, b; a share has none
-unfoldable pub line_of_kind : ℕ → Kind → ℕ → ℕ → Line
-line_of_kind w K.Share a b = L.Bad
-line_of_kind w K.Rand a b = L.Rand w
-line_of_kind w K.Pub a b = L.Pub w
-line_of_kind w K.Xor a b = L.Xor w a b
-line_of_kind w K.And a b = L.And w a b
-line_of_kind w K.Not a b = L.Not w a
+unfoldable pub line_of_kind : ℕ → Kind → ℕ → ℕ → Option Line
+line_of_kind w K.Share a b = None
+line_of_kind w K.Rand a b = Some (L.Rand w)
+line_of_kind w K.Pub a b = Some (L.Pub w)
+line_of_kind w K.Xor a b = Some (L.Xor w a b)
+line_of_kind w K.And a b = Some (L.And w a b)
+line_of_kind w K.Not a b = Some (L.Not w a)
 
 -- 1.47: the line of wire w
-abbrev pub wire_line : Routine → ℕ → Line
+abbrev pub wire_line : Routine → ℕ → Option Line
 wire_line R w = line_of_kind w (wire R w).kind (wire R w).a (wire R w).b
 
 -- 1.47: the lines of m wires from w on
-unfoldable pub wire_lines : Routine → ℕ → ℕ → List Line
+unfoldable pub wire_lines : Routine → ℕ → ℕ → List (Option Line)
 wire_lines R zero w = []
 wire_lines R (suc m) w = wire_line R w ∷ wire_lines R m (suc w)
 
 -- 1.47: the `out` lines of the outputs among m wires from w on, ascending
-unfoldable pub out_lines : Routine → ℕ → ℕ → List Line
+unfoldable pub out_lines : Routine → ℕ → ℕ → List (Option Line)
 out_lines R zero w = []
-out_lines R (suc m) w = cond (wire R w).out (L.Out w ∷ out_lines R m (suc w)) (out_lines R m (suc w))
+out_lines R (suc m) w = cond (wire R w).out (Some (L.Out w) ∷ out_lines R m (suc w)) (out_lines R m (suc w))
 
 -- 1.47: the header, the lines of the wires from S-as-D on, then the `out` lines
-unfoldable pub lines_of : Routine → List Line
-lines_of R = L.Head R.S R.D ∷ (wire_lines R (size R - R.S * R.D) (R.S * R.D) ++ out_lines R (size R) 0)
+unfoldable pub lines_of : Routine → List (Option Line)
+lines_of R = Some (L.Head R.S R.D) ∷ (wire_lines R (size R - R.S * R.D) (R.S * R.D) ++ out_lines R (size R) 0)
 
 -- 1.47: the routine's text
 unfoldable pub text_of : Routine → List ℕ

@@ -1,74 +1,58 @@
--- Laws on tests, numbers, words and cuts that the proofs of this crate cite.
-use mathlib.Core.Path.{◌≡◌, refl, ap}
-use mathlib.Core.Bool.{true, false, ◌&&◌, and-false}
-use mathlib.Core.List.{List, [], ◌∷◌}
-use Prim.Native.Nat.{ℕ, zero, suc, ◌+◌, ◌-◌, ◌≤◌, ◌<◌}
-use native.Mathlib.Omega.{arith}
-use native.Mathlib.Numerals.{add-one}
-use lib.ListN.{length, get_or, take, drop, drop_of_length-le, length-drop}
-use lib.Seq.{take_all}
-use lib.Dec.{leb, eqb}
-use borrow.Author.Tests.{leb-true, eq-eqb, ne_eqb}
+-- Laws on cuts, numbers and words that the proofs of this crate cite.
+use Rattle.std.specs.Prelude.{◌≡◌, refl, Bool, true, false, not, ◌&&◌, cond, None, Some, List, [], ◌∷◌, ◌++◌, ℕ, suc, ◌+◌, ◌-◌, ◌*◌, ◌≤◌, ◌<◌, eqb, ltb, length, get_or, take, drop, position}
+use Rattle.std.specs.List.{position_or_len, between}
+use Rattle.std.proofs.Common.{ap, sym, ◌∙◌, subst, arith, add-one, eqb-true, ltb-true, ltb-false}
+use Rattle.std.proofs.Math.Bool.{and-false, and-true}
+use Rattle.std.proofs.lemmas.Bool.Decides.{nat_tests}
+use Rattle.std.proofs.lemmas.Slice.{between_to_end}
+use Rattle.std.proofs.lemmas.Option.{cond_some, none-some}
 use Rattle.data.specs.Basics.{same}
-use Rattle.data.proofs.Laws.Tests.{and_l, and_r}
-use Rattle.document.specs.Lines.{cut, front, number, digit, lead, word_of, spelled, digit_zero, digit_one, digit_nine}
-use Rattle.data.specs.declared.Number.{Number}
-use Rattle.data.specs.declared.Number.TheVariants.{Bad}
-use Rattle.data.specs.declared.Word.{Word}
-use Rattle.data.specs.declared.Word.TheVariants.{Other, Routine, Rand, Pub, Xor, And, Not, Out}
-use Rattle.fields.specs.Parts.{Parted}
-
--- ---- tests
-
-pub digit_is : (c : ℕ) → digit c ≡ true → (digit_zero ≤ c) × (c ≤ digit_nine)
-digit_is c h =
-    (leb-true _ _ (and_l (leb digit_zero c) (leb c digit_nine) h), leb-true _ _ (and_r (leb digit_zero c) (leb c digit_nine) h))
-
-pub lead_is : (c : ℕ) → lead c ≡ true → (digit_one ≤ c) × (c ≤ digit_nine)
-lead_is c h =
-    (leb-true _ _ (and_l (leb digit_one c) (leb c digit_nine) h), leb-true _ _ (and_r (leb digit_one c) (leb c digit_nine) h))
+use Rattle.document.specs.Lines.{cut, front, number, digit, lead}
 
 -- ---- numbers, by the length of the field
 
-pub number_1 : (xs : List ℕ) {r : Number} {a : ℕ} → length xs ≡ 1 → r ≡ number (a ∷ []) → a ≡ get_or xs 0 0 → r ≡ number xs
-number_1 [] h e p = let z : ⊥ = omega arith in absurd z
-number_1 (a ∷ []) h e p = cc
-number_1 (a ∷ b ∷ xs) h e p = let z : ⊥ = omega arith in absurd z
-
-pub number_2 : (xs : List ℕ) {r : Number} {a b : ℕ} → length xs ≡ 2 → r ≡ number (a ∷ b ∷ []) → a ≡ get_or xs 0 0 → b ≡ get_or xs 1 0 → r ≡ number xs
-number_2 [] h e p q = let z : ⊥ = omega arith in absurd z
-number_2 (a ∷ []) h e p q = let z : ⊥ = omega arith in absurd z
-number_2 (a ∷ b ∷ []) h e p q = cc
-number_2 (a ∷ b ∷ c ∷ xs) h e p q = let z : ⊥ = omega arith in absurd z
-
-pub number_3 : (xs : List ℕ) {r : Number} {a b c : ℕ}
-    → length xs ≡ 3 → r ≡ number (a ∷ b ∷ c ∷ []) → a ≡ get_or xs 0 0 → b ≡ get_or xs 1 0 → c ≡ get_or xs 2 0 → r ≡ number xs
-number_3 [] h e p q s = let z : ⊥ = omega arith in absurd z
-number_3 (a ∷ []) h e p q s = let z : ⊥ = omega arith in absurd z
-number_3 (a ∷ b ∷ []) h e p q s = let z : ⊥ = omega arith in absurd z
-number_3 (a ∷ b ∷ c ∷ []) h e p q s = cc
-number_3 (a ∷ b ∷ c ∷ d ∷ xs) h e p q s = let z : ⊥ = omega arith in absurd z
-
-pub number_else : (xs : List ℕ) → (length xs ≡ 1 → ⊥) → (length xs ≡ 2 → ⊥) → (length xs ≡ 3 → ⊥) → number xs ≡ Bad
+pub number_0 : (xs : List ℕ) → length xs < 1 → number xs ≡ None
 unfolding number
-number_else [] f g h = refl
-number_else (a ∷ []) f g h = absurd (f refl)
-number_else (a ∷ b ∷ []) f g h = absurd (g refl)
-number_else (a ∷ b ∷ c ∷ []) f g h = absurd (h refl)
-number_else (a ∷ b ∷ c ∷ d ∷ xs) f g h = refl
+number_0 [] h = refl
+number_0 (a ∷ xs) h = absurd (omega arith)
 
--- ---- words: two lists compared from the front, and the words in the order of their tests
+pub number_1 : (xs : List ℕ) → length xs ≡ 1 → number xs ≡ cond (digit (get_or xs 0 0)) (Some (get_or xs 0 0 - 48)) None
+unfolding number
+number_1 [] h = absurd (omega arith)
+number_1 (a ∷ []) h = refl
+number_1 (a ∷ b ∷ xs) h = absurd (omega arith)
 
-pub same_step : (i : ℕ) (xs ys : List ℕ) → i < length xs → i < length ys
-    → same (drop i xs) (drop i ys) ≡ (eqb (get_or xs i 0) (get_or ys i 0) && same (drop (i + 1) xs) (drop (i + 1) ys))
-unfolding same
-same_step i xs ys h k = rw add-one (go i xs ys h k) where
-  go : (i : ℕ) (xs ys : List ℕ) → i < length xs → i < length ys
-      → same (drop i xs) (drop i ys) ≡ (eqb (get_or xs i 0) (get_or ys i 0) && same (drop (suc i) xs) (drop (suc i) ys))
-  go i [] ys h k = let z : ⊥ = omega arith in absurd z
-  go i (x ∷ xs) [] h k = let z : ⊥ = omega arith in absurd z
-  go zero (x ∷ xs) (y ∷ ys) h k = refl
-  go (suc i) (x ∷ xs) (y ∷ ys) h k = go i xs ys (omega arith) (omega arith)
+pub number_2 : (xs : List ℕ) → length xs ≡ 2
+    → number xs ≡ cond (lead (get_or xs 0 0) && digit (get_or xs 1 0)) (Some ((get_or xs 0 0 - 48) * 10 + (get_or xs 1 0 - 48))) None
+unfolding number
+number_2 [] h = absurd (omega arith)
+number_2 (a ∷ []) h = absurd (omega arith)
+number_2 (a ∷ b ∷ []) h = refl
+number_2 (a ∷ b ∷ c ∷ xs) h = absurd (omega arith)
+
+pub number_3 : (xs : List ℕ) → length xs ≡ 3
+    → number xs
+    ≡ cond (lead (get_or xs 0 0) && digit (get_or xs 1 0) && digit (get_or xs 2 0))
+    (Some ((get_or xs 0 0 - 48) * 100 + (get_or xs 1 0 - 48) * 10 + (get_or xs 2 0 - 48))) None
+unfolding number
+number_3 [] h = absurd (omega arith)
+number_3 (a ∷ []) h = absurd (omega arith)
+number_3 (a ∷ b ∷ []) h = absurd (omega arith)
+number_3 (a ∷ b ∷ c ∷ []) h = refl
+number_3 (a ∷ b ∷ c ∷ d ∷ xs) h = absurd (omega arith)
+
+pub number_4 : (xs : List ℕ) → 3 < length xs → number xs ≡ None
+unfolding number
+number_4 [] h = absurd (omega arith)
+number_4 (a ∷ []) h = absurd (omega arith)
+number_4 (a ∷ b ∷ []) h = absurd (omega arith)
+number_4 (a ∷ b ∷ c ∷ []) h = absurd (omega arith)
+number_4 (a ∷ b ∷ c ∷ d ∷ xs) h = refl
+
+-- a field of any length, and the tests of its bytes
+pub ruleset numbers = (number_0, number_1, number_2, number_3, number_4, nat_tests)
+
+-- ---- words, byte by byte
 
 pub same_not : (xs ys : List ℕ) → (length xs ≡ length ys → ⊥) → same xs ys ≡ false
 unfolding same
@@ -77,61 +61,85 @@ same_not [] (y ∷ ys) f = refl
 same_not (x ∷ xs) [] f = refl
 same_not (x ∷ xs) (y ∷ ys) f = rw (same_not xs ys (λ e. f (ap suc e))) (and-false (eqb x y))
 
-pub same_end : (i : ℕ) (xs ys : List ℕ) → length xs ≤ i → length ys ≤ i → same (drop i xs) (drop i ys) ≡ true
+pub same_3 : (xs : List ℕ) (a b c : ℕ) → length xs ≡ 3
+    → same xs (a ∷ b ∷ c ∷ []) ≡ (eqb (get_or xs 0 0) a && (eqb (get_or xs 1 0) b && eqb (get_or xs 2 0) c))
 unfolding same
-same_end i xs ys h k = rw (drop_of_length-le xs h, drop_of_length-le ys k) refl
+same_3 [] a b c h = absurd (omega arith)
+same_3 (x ∷ []) a b c h = absurd (omega arith)
+same_3 (x ∷ y ∷ []) a b c h = absurd (omega arith)
+same_3 (x ∷ y ∷ z ∷ []) a b c h = simp and-true
+same_3 (x ∷ y ∷ z ∷ w ∷ xs) a b c h = absurd (omega arith)
 
-module _ (f : List ℕ) where
-  abbrev Is : Word → Type 0
-  Is w = same f (spelled w) ≡ true
+pub same_4 : (xs : List ℕ) (a b c d : ℕ) → length xs ≡ 4
+    → same xs (a ∷ b ∷ c ∷ d ∷ []) ≡ (eqb (get_or xs 0 0) a && (eqb (get_or xs 1 0) b && (eqb (get_or xs 2 0) c && eqb (get_or xs 3 0) d)))
+unfolding same
+same_4 [] a b c d h = absurd (omega arith)
+same_4 (x ∷ xs) a b c d h = ap (λ (t : Bool). eqb x a && t) (same_3 xs b c d (omega arith))
 
-  abbrev No : Word → Type 0
-  No w = same f (spelled w) ≡ false
+pub same_7 : (xs : List ℕ) (a b c d e f g : ℕ) → length xs ≡ 7
+    → same xs (a ∷ b ∷ c ∷ d ∷ e ∷ f ∷ g ∷ [])
+    ≡ (eqb (get_or xs 0 0) a && (eqb (get_or xs 1 0) b && (eqb (get_or xs 2 0) c
+    && (eqb (get_or xs 3 0) d && (eqb (get_or xs 4 0) e && (eqb (get_or xs 5 0) f && eqb (get_or xs 6 0) g))))))
+unfolding same
+same_7 [] a b c d e f g h = absurd (omega arith)
+same_7 (x ∷ []) a b c d e f g h = absurd (omega arith)
+same_7 (x ∷ y ∷ []) a b c d e f g h = absurd (omega arith)
+same_7 (x ∷ y ∷ z ∷ xs) a b c d e f g h = ap (λ (t : Bool). eqb x a && (eqb y b && (eqb z c && t))) (same_4 xs d e f g (omega arith))
 
-  pub is_rand_lem : Is Rand → Rand ≡ word_of f
-  unfolding word_of
-  is_rand_lem a = simp (a)
-
-  pub is_pub_lem : No Rand → Is Pub → Pub ≡ word_of f
-  unfolding word_of
-  is_pub_lem a b = simp (a, b)
-
-  pub is_xor : No Rand → No Pub → Is Xor → Xor ≡ word_of f
-  unfolding word_of
-  is_xor a b d = simp (a, b, d)
-
-  pub is_and : No Rand → No Pub → No Xor → Is And → And ≡ word_of f
-  unfolding word_of
-  is_and a b d e = simp (a, b, d, e)
-
-  pub is_not : No Rand → No Pub → No Xor → No And → Is Not → Not ≡ word_of f
-  unfolding word_of
-  is_not a b d e g = simp (a, b, d, e, g)
-
-  pub is_out : No Rand → No Pub → No Xor → No And → No Not → Is Out → Out ≡ word_of f
-  unfolding word_of
-  is_out a b d e g h = simp (a, b, d, e, g, h)
-
-  pub is_routine : No Rand → No Pub → No Xor → No And → No Not → No Out → Is Routine → Routine ≡ word_of f
-  unfolding word_of
-  is_routine a b d e g h i = simp (a, b, d, e, g, h, i)
-
-  pub is_other_lem : No Rand → No Pub → No Xor → No And → No Not → No Out → No Routine → Other ≡ word_of f
-  unfolding word_of
-  is_other_lem a b d e g h i = simp (a, b, d, e, g, h, i)
+-- a field against the words of any length, and the tests of its bytes
+pub ruleset spellings = (same_3, same_4, same_7, same_not, nat_tests)
 
 -- ---- cuts
 
--- r is the place of the first s, or the end
-pub parted : (s : ℕ) (xs : List ℕ) (r : ℕ) → r ≤ length xs → ((k : ℕ) → k < r → get_or xs k 0 ≡ s → ⊥) → (r < length xs → get_or xs r 0 ≡ s) → Parted s xs r
-unfolding cut front
-parted s [] zero h f g = record { within = h; last = λ e. refl; more = λ n. absurd (n refl) }
-parted s [] (suc r) h f g = let z : ⊥ = omega arith in absurd z
-parted s (x ∷ xs) zero h f g = record { within = h; last = λ e. let z : ⊥ = omega arith in absurd z; more = λ n. simp (eq-eqb x s (g (omega arith))) }
-parted s (x ∷ xs) (suc r) h f g =
-    let p : Parted s xs r = parted s xs r (omega arith) (λ k l. f (suc k) (omega arith)) (λ l. g (omega arith)) in
-    let t = ne_eqb x s (f 0 (omega arith)) in
-    record { within = h; last = λ e. simp (t, p.last (omega arith)); more = λ n. simp (t, p.more (λ e. n (ap suc e)), add-one) }
+-- xs, cut at its first separator, which is at place n
+record CutAt (s : ℕ) (xs : List ℕ) (n : ℕ) : Type 0 where
+  cut : cut s xs ≡ take n xs ∷ cut s (drop (suc n) xs)
+  parts : xs ≡ take n xs ++ s ∷ drop (suc n) xs
 
-pub tail_is : (n : ℕ) (xs : List ℕ) → take (length xs - n) (drop n xs) ≡ drop n xs
-tail_is n xs = take_all (length xs - n) (drop n xs) (simp length-drop (omega arith))
+abbrev place : ℕ → List ℕ → ℕ
+place s xs = position_or_len (λ b. eqb b s) xs
+
+cut_more : (s x : ℕ) (xs : List ℕ) (n : ℕ) → eqb x s ≡ false → CutAt s xs n → CutAt s (x ∷ xs) (suc n)
+unfolding cut front
+cut_more s x xs n e r = record { cut = simp (e, r.cut); parts = ap (λ (ys : List ℕ). x ∷ ys) r.parts }
+
+at_place : (s : ℕ) (xs : List ℕ) → place s xs < length xs → CutAt s xs (place s xs)
+unfolding cut front
+at_place s [] h = absurd (omega arith)
+at_place s (x ∷ xs) h = go (eqb x s) refl (at_place s xs) h where
+  go : (b : Bool) → eqb x s ≡ b → (place s xs < length xs → CutAt s xs (place s xs)) → cond (not b) (1 + place s xs) 0 < suc (length xs)
+      → CutAt s (x ∷ xs) (cond (not b) (1 + place s xs) 0)
+  go true e more h = record { cut = rw e refl; parts = ap (λ (y : ℕ). y ∷ xs) (eqb-true x s e) }
+  go false e more h =
+      let z : suc (place s xs) ≡ 1 + place s xs = omega arith in
+      subst (CutAt s (x ∷ xs)) z (cut_more s x xs (place s xs) e (more (omega arith)))
+
+no_place : (s : ℕ) (xs : List ℕ) → length xs ≤ place s xs → cut s xs ≡ xs ∷ []
+unfolding cut front
+no_place s [] h = refl
+no_place s (x ∷ xs) h = go (eqb x s) (no_place s xs) h where
+  go : (b : Bool) → (length xs ≤ place s xs → cut s xs ≡ xs ∷ []) → suc (length xs) ≤ cond (not b) (1 + place s xs) 0
+      → cond b ([] ∷ cut s xs) (front x (cut s xs)) ≡ (x ∷ xs) ∷ []
+  go true more h = absurd (omega arith)
+  go false more h = rw (more (omega arith)) refl
+
+-- what stands before the first separator and behind it
+pub record Split (s : ℕ) (xs : List ℕ) (n : ℕ) : Type 0 where
+  pub cut : cut s xs ≡ take n xs ∷ cut s (between (n + 1) (length xs) xs)
+  pub parts : xs ≡ take n xs ++ s ∷ between (n + 1) (length xs) xs
+
+pub cut_some : (s : ℕ) (xs : List ℕ) (n : ℕ) → position (λ b. eqb b s) xs ≡ Some n → Split s xs n
+cut_some s xs n h =
+    let t = cond_some (ltb (place s xs) (length xs)) (place s xs) n h in
+    let r : CutAt s xs n = subst (CutAt s xs) t.1 (at_place s xs (ltb-true _ _ t.0)) in
+    let e : drop (suc n) xs ≡ between (n + 1) (length xs) xs = rw add-one (sym (between_to_end xs (suc n) (length xs) (omega arith))) in
+    record {
+      cut = r.cut ∙ ap (λ (ys : List ℕ). take n xs ∷ cut s ys) e;
+      parts = r.parts ∙ ap (λ (ys : List ℕ). take n xs ++ s ∷ ys) e;
+    }
+
+pub cut_none : (s : ℕ) (xs : List ℕ) → position (λ b. eqb b s) xs ≡ None → cut s xs ≡ xs ∷ []
+cut_none s xs h = no_place s xs (go (ltb (place s xs) (length xs)) refl h) where
+  go : (b : Bool) → ltb (place s xs) (length xs) ≡ b → cond b (Some (place s xs)) None ≡ None → length xs ≤ place s xs
+  go true e h = absurd (none-some (place s xs) (sym h))
+  go false e h = ltb-false _ _ e

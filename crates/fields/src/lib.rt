@@ -1,172 +1,60 @@
 // The fields of a line of a routine text: the parts between separators, and a field as a number or a word.
 #![tactic(auto)]
 
-ghost use Rattle.std.specs.Prelude.{◌≡◌, ◌∷◌, [], ◌≤◌, length, take, drop};
-ghost use Rattle.data.specs.Basics.{same};
-ghost use Rattle.document.specs.Lines.{number, digit, lead, word_of};
-ghost use Rattle.fields.specs.Parts.{Parted};
+ghost use Rattle.std.specs.Prelude.{◌≡◌, ◌∷◌, ◌++◌, [], MatchOption, IfSome, position, eqb};
+ghost use Rattle.document.specs.Lines.{cut, number, word_of};
 
-use data::{Number, Word};
+use data::{Word, ZERO};
 
-// The digits 0 and 1, and the last.
-pub const DIGIT_ZERO: usize = 48;
-
-const DIGIT_ONE: usize = 49;
-
-pub const DIGIT_NINE: usize = 57;
-
-// ---- parts
-
-// The length of the first part of xs: the place of the first sep, or where there is none the whole.
-pub fn part(xs: &[u8], sep: u8) -> usize
-    ensures { Parted sep xs.now result }
+// The place of the first sep.
+fn place_of(xs: &[u8], sep: u8) -> Option<usize>
+    ensures { result ≡ position (λ b. eqb b sep) xs.now }
 {
-    let mut i = 0;
-    while i < xs.len() {
-        if xs[i] == sep {
-            return i;
-        }
-        i += 1;
-    }
-    i
+    xs.iter().position(|b| *b == sep)
 }
 
-// The first n bytes.
-pub fn head(xs: &[u8], n: usize) -> &[u8]
-    requires { n ≤ length xs.now }
-    ensures { result.now ≡ take n xs.now }
+// The bytes before the first sep and those behind it, where there is one.
+#[tactic(auto, using(crate::proofs::Laws::cut_some, crate::proofs::Laws::cut_none))]
+pub fn split_once(xs: &[u8], sep: u8) -> Option<(&[u8], &[u8])>
+    ensures cut { MatchOption result (cut sep xs.now ≡ xs.now ∷ []) (λ p. cut sep xs.now ≡ p.0.now ∷ cut sep p.1.now) }
+    ensures parts { IfSome result (λ p. xs.now ≡ p.0.now ++ sep ∷ p.1.now) }
 {
-    &xs[..n]
-}
-
-// The bytes from n on.
-pub fn tail(xs: &[u8], n: usize) -> &[u8]
-    requires { n ≤ length xs.now }
-    ensures { result.now ≡ drop n xs.now }
-{
-    &xs[n..]
-}
-
-// ---- numbers
-
-// 0 to 9.
-fn is_digit(c: usize) -> bool
-    ensures { result ≡ digit c }
-{
-    DIGIT_ZERO <= c && c <= DIGIT_NINE
-}
-
-// 1 to 9: what a number of more than one digit begins with.
-fn is_lead(c: usize) -> bool
-    ensures { result ≡ lead c }
-{
-    DIGIT_ONE <= c && c <= DIGIT_NINE
-}
-
-// A byte as a number of the code's own width.
-pub fn wide(c: u8) -> usize
-    ensures { result ≡ c }
-{
-    c as usize
-}
-
-fn one_digit(a: usize) -> Number
-    ensures { result ≡ number (a ∷ []) }
-{
-    if is_digit(a) {
-        return Number::Is(a - DIGIT_ZERO);
-    }
-    Number::Bad
-}
-
-fn two_digits(a: usize, b: usize) -> Number
-    ensures { result ≡ number (a ∷ b ∷ []) }
-{
-    if is_lead(a) {
-        if is_digit(b) {
-            return Number::Is((a - DIGIT_ZERO) * 10 + (b - DIGIT_ZERO));
-        }
-        return Number::Bad;
-    }
-    Number::Bad
-}
-
-fn three_digits(a: usize, b: usize, c: usize) -> Number
-    ensures { result ≡ number (a ∷ b ∷ c ∷ []) }
-{
-    if is_lead(a) {
-        if is_digit(b) {
-            if is_digit(c) {
-                return Number::Is(
-                    (a - DIGIT_ZERO) * 100 + (b - DIGIT_ZERO) * 10 + (c - DIGIT_ZERO),
-                );
-            }
-            return Number::Bad;
-        }
-        return Number::Bad;
-    }
-    Number::Bad
+    let n = place_of(xs, sep)?;
+    Some((&xs[..n], &xs[n + 1..]))
 }
 
 // A field as a number.
-pub fn number_of(f: &[u8]) -> Number
+#[tactic(auto, using(crate::proofs::Laws::numbers))]
+pub fn number_of(f: &[u8]) -> Option<usize>
     ensures { result ≡ number f.now }
 {
-    let n = f.len();
-    if n == 1 {
-        return one_digit(wide(f[0]));
-    }
-    if n == 2 {
-        return two_digits(wide(f[0]), wide(f[1]));
-    }
-    if n == 3 {
-        return three_digits(wide(f[0]), wide(f[1]), wide(f[2]));
-    }
-    Number::Bad
-}
-
-// ---- words
-
-fn is_same(xs: &[u8], ys: &[u8]) -> bool
-    ensures { result ≡ same xs.now ys.now }
-{
-    if xs.len() != ys.len() {
-        return false;
-    }
-    let mut i = 0;
-    while i < xs.len() {
-        if xs[i] != ys[i] {
-            return false;
+    match f {
+        [a @ b'0'..=b'9'] => Some(usize::from(*a - ZERO)),
+        [a @ b'1'..=b'9', b @ b'0'..=b'9'] => {
+            Some(usize::from(*a - ZERO) * 10 + usize::from(*b - ZERO))
         }
-        i += 1;
+        [a @ b'1'..=b'9', b @ b'0'..=b'9', c @ b'0'..=b'9'] => {
+            Some(
+                usize::from(*a - ZERO) * 100 + usize::from(*b - ZERO) * 10 + usize::from(*c - ZERO),
+            )
+        }
+        _ => None,
     }
-    true
 }
 
 // A field as a word.
-pub fn word_of(f: &[u8]) -> Word
+#[tactic(auto, using(crate::proofs::Laws::spellings), unfolding(document::specs::Lines::word_of))]
+pub fn word_of(f: &[u8]) -> Option<Word>
     ensures { result ≡ word_of f.now }
 {
-    if is_same(f, b"rand") {
-        return Word::Rand;
+    match f {
+        b"rand" => Some(Word::Rand),
+        b"pub" => Some(Word::Pub),
+        b"xor" => Some(Word::Xor),
+        b"and" => Some(Word::And),
+        b"not" => Some(Word::Not),
+        b"out" => Some(Word::Out),
+        b"routine" => Some(Word::Routine),
+        _ => None,
     }
-    if is_same(f, b"pub") {
-        return Word::Pub;
-    }
-    if is_same(f, b"xor") {
-        return Word::Xor;
-    }
-    if is_same(f, b"and") {
-        return Word::And;
-    }
-    if is_same(f, b"not") {
-        return Word::Not;
-    }
-    if is_same(f, b"out") {
-        return Word::Out;
-    }
-    if is_same(f, b"routine") {
-        return Word::Routine;
-    }
-    Word::Other
 }

@@ -4,22 +4,15 @@
 ghost use Rattle.std.specs.Prelude.{◌≡◌};
 ghost use Rattle.document.specs.Lent.{read_for, filled};
 
-use data::{Filled, Listing, Read, Refusal, Shape, Wire};
+use data::{Filled, Read, Refusal, Wire};
 
 // 10, from the length of the list; then the text.
+#[tactic(auto, using(std::proofs::lemmas::Bool::Decides::nat_tests), unfolding(document::specs::Lent::read_for))]
 pub fn read_for(text: &[u8], len: usize) -> Read
     ensures { result ≡ read_for text.now len }
 {
     if len < 128 {
-        let outcome = Err(Refusal::Lent);
-        let shape = Shape { s: 0, d: 0, n: 0 };
-        let wires = listing::blank_wires();
-        let listing = Listing { shape, wires };
-        return Read {
-            outcome,
-            line: 0,
-            listing,
-        };
+        return lines::refuse(Refusal::Lent, 0);
     }
     reader::read(text)
 }
@@ -39,11 +32,9 @@ pub fn size_of(r: Read) -> usize
 pub fn answer_of(r: Read) -> Filled
     ensures { result ≡ filled r }
 {
-    let outcome = r.outcome;
-    let shape = r.listing.shape;
     Filled {
-        outcome,
+        outcome: r.outcome,
         line: r.line,
-        shape,
+        shape: r.listing.shape,
     }
 }

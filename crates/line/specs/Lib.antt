@@ -1,2 +1,2 @@
--- What the functions of this crate say of each other: a line field by field.
+-- What the functions of this crate say of each other: a line of its word and its numbers.
 pub mod Fields

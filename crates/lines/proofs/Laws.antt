@@ -1,25 +1,23 @@
 -- Laws on the first line of a text, and on one turn of the loop over its later lines.
-use mathlib.Core.Path.{◌≡◌, refl, sym, ap, ◌∙◌}
+use mathlib.Core.Path.{◌≡◌, refl, ap, ◌∙◌}
 use mathlib.Core.Bool.{true, false, ◌&&◌}
-use mathlib.Core.List.{List, [], ◌∷◌, map}
-use Prim.Native.Nat.{ℕ, ◌+◌, ◌*◌, ◌/◌, ◌%◌, ◌≤◌}
+use mathlib.Core.List.{List, [], ◌∷◌, ◌++◌, map}
+use Prim.Native.Nat.{ℕ, ◌+◌, ◌*◌, ◌/◌, ◌%◌, ◌≤◌, ◌<◌}
 use native.Mathlib.Omega.{arith}
 use native.Mathlib.Nat.{mul-le-mul_right}
 use native.Mathlib.Numerals.{add-one}
 use lib.Dec.{leb, lit≤}
-use lib.ListN.{length, take, drop, set, length-drop}
-use lib.Seq.{drop-drop}
+use lib.ListN.{length, set}
+use Rattle.std.proofs.Common.{length-append}
 use borrow.Author.Tests.{leb-true}
 use Rattle.data.proofs.Laws.Tests.{and_l, and_r}
 use Rattle.document.specs.Routine.{in_range}
 use Rattle.document.specs.Lines.{cut, heads, lf, line_of, lines_in}
-use Rattle.document.specs.Reading.{take_line, not_read, read_all, onward, read_lines, share_records, begun}
+use Rattle.document.specs.Reading.{take_line, not_read, read_all, read_lines, share_records, begun}
 use Rattle.data.specs.declared.Kind.TheVariants as K
-use Rattle.data.specs.declared.Line.{Line}
 use Rattle.data.specs.declared.Refusal.{Refusal}
 use Rattle.std.specs.Prelude.{Ok, Err}
 use Rattle.data.specs.declared.State.{State}
-use Rattle.data.specs.declared.Taken.{Taken}
 use Rattle.document.proofs.Laws.Cuts.{cut_some}
 use Rattle.state.specs.Ceilings.{UnderCeilings}
 use Rattle.taking.proofs.LineLaws.{take_bounded}
@@ -49,6 +47,15 @@ pub begun_bounded : (s d : ℕ) → in_range s d ≡ true → UnderCeilings (beg
 unfolding begun
 begun_bounded s d h = let z = few_shares s d (range_is s d h) in record { few_wires = omega arith; few_rands = lit≤ tt; few_pubs = lit≤ tt }
 
+-- what the shares need: their number fits the records, and a record's numbers fit a byte
+pub record FewShares (s d : ℕ) : Type 0 where
+  pub few : s * d ≤ 64
+  pub some : 0 < d
+  pub most : d ≤ 8
+
+pub in_few : (s d : ℕ) → in_range s d ≡ true → FewShares s d
+in_few s d h = let r = range_is s d h in let z = few_shares s d r in record { few = z; some = omega arith; most = r.few_shares }
+
 pub shares_next : (d i : ℕ) → set (share_records d i) i (record { kind = K.Share; a = i / d; b = i % d; out = false }) ≡ share_records d (i + 1)
 unfolding share_records
 shares_next d i = rw add-one refl
@@ -64,39 +71,28 @@ pub lines_none : (ys : List ℕ) {p : List ℕ} → cut lf ys ≡ p ∷ [] → l
 unfolding heads
 lines_none ys h = rw h refl
 
--- a line that an LF ends, with the LF, lies within the text
-pub within_text : (text rest : List ℕ) (at end : ℕ)
-    → rest ≡ drop at text → at ≤ length text → end ≤ length rest → (end ≡ length rest → ⊥) → at + end + 1 ≤ length text
-within_text text rest at end h a b n = let z = ap length h ∙ length-drop at text in omega arith
+-- the first line of some bytes is followed by the lines behind it
+pub lines_first : (xs p ys : List ℕ) → cut lf xs ≡ p ∷ cut lf ys → lines_in xs ≡ line_of p ∷ lines_in ys
+lines_first xs p ys h = ap (λ (ps : List (List ℕ)). map line_of (heads ps)) h ∙ lines_more p ys
 
-pub onto : (at end : ℕ) (text rest : List ℕ) → rest ≡ drop at text → drop (end + 1) rest ≡ drop (at + end + 1) text
-onto at end text rest h =
-    let z : at + (end + 1) ≡ at + end + 1 = omega arith in
-    ap (λ (l : List ℕ). drop (end + 1) l) h ∙ drop-drop (end + 1) at text ∙ ap (λ (n : ℕ). drop n text) z
-
-pub lines_end : (k : ℕ) (st : State) (xs rest : List ℕ) {p : List ℕ} → rest ≡ xs → cut lf rest ≡ p ∷ [] → read_lines k st (lines_in xs) ≡ read_all st
-unfolding read_lines
-lines_end k st xs rest e h = ap (λ (l : List ℕ). read_lines k st (lines_in l)) (sym e) ∙ ap (read_lines k st) (lines_none rest h)
-
--- one turn: the part `here` of what is left is a line that an LF ends
-module _ (k : ℕ) (st : State) (text : List ℕ) (at end : ℕ) (rest here : List ℕ) (l : Line) (r : Taken)
-    (left : rest ≡ drop at text) (parts : cut lf rest ≡ take end rest ∷ cut lf (drop (end + 1) rest)) (part : here ≡ take end rest)
-    (is : l ≡ line_of here) (does : r ≡ take_line st l) where
-  turn : read_lines k st (lines_in (drop at text)) ≡ onward r.outcome k (read_lines (k + 1) r.state (lines_in (drop (at + end + 1) text)))
+-- one turn: the bytes end, or their first line is taken or refused
+module _ (k : ℕ) (st : State) (xs : List ℕ) where
+  pub turn_end : cut lf xs ≡ xs ∷ [] → read_lines k st (lines_in xs) ≡ read_all st
   unfolding read_lines
-  turn =
-      ap (λ (l : List ℕ). read_lines k st (lines_in l)) (sym left)
-      ∙ ap (λ (ps : List (List ℕ)). read_lines k st (map line_of (heads ps))) parts
-      ∙ ap (read_lines k st) (lines_more (take end rest) (drop (end + 1) rest))
-      ∙ ap (λ (x : Taken). onward x.outcome k (read_lines (k + 1) x.state (lines_in (drop (end + 1) rest))))
-      (sym (does ∙ ap (take_line st) (is ∙ ap line_of part)))
-      ∙ ap (λ (l : List ℕ). onward r.outcome k (read_lines (k + 1) r.state (lines_in l))) (onto at end text rest left)
+  turn_end h = rw (lines_none xs h) refl
 
-  pub turn_on : r.outcome ≡ Ok tt → read_lines (k + 1) r.state (lines_in (drop (at + end + 1) text)) ≡ read_lines k st (lines_in (drop at text))
-  turn_on o = sym (turn ∙ rw o refl)
+  pub turn_on : (p ys : List ℕ) (next : State) → cut lf xs ≡ p ∷ cut lf ys → take_line st (line_of p) ≡ Ok next
+      → read_lines k st (lines_in xs) ≡ read_lines (k + 1) next (lines_in ys)
+  unfolding read_lines
+  turn_on p ys next h e = rw (lines_first xs p ys h, e) refl
 
-  pub turn_no : {f : Refusal} → r.outcome ≡ Err f → not_read f k ≡ read_lines k st (lines_in (drop at text))
-  turn_no o = sym (turn ∙ rw o refl)
+  pub turn_no : (p ys : List ℕ) (f : Refusal) → cut lf xs ≡ p ∷ cut lf ys → take_line st (line_of p) ≡ Err f
+      → read_lines k st (lines_in xs) ≡ not_read f k
+  unfolding read_lines
+  turn_no p ys f h e = rw (lines_first xs p ys h, e) refl
 
-  pub turn_bounded : UnderCeilings st → UnderCeilings r.state
-  turn_bounded g = rw does (take_bounded st l g)
+-- what is left gets shorter
+pub shorter : (xs p ys : List ℕ) (s : ℕ) → xs ≡ p ++ s ∷ ys → length ys + 1 ≤ length xs
+shorter xs p ys s h = rw h (omega (arith, length-append p (s ∷ ys)))
+
+pub ruleset turns = (turn_end, turn_on, turn_no, take_bounded, shorter)

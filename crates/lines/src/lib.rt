@@ -1,8 +1,7 @@
 // The first line of a text, and the lines behind it one by one.
 #![tactic(auto)]
 
-ghost use Rattle.std.specs.Prelude.{◌≡◌, true, cond, ◌≤◌, ◌<◌, length, drop};
-ghost use Rattle.data.specs.Basics.{each};
+ghost use Rattle.std.specs.Prelude.{◌≡◌, true, ◌≤◌, ◌<◌};
 ghost use Rattle.document.specs.Routine.{in_range};
 ghost use Rattle.document.specs.Lines.{lines_in};
 ghost use Rattle.document.specs.Reading.{not_read, read_all, read_lines, share_records, begun, from_header};
@@ -10,95 +9,76 @@ ghost use Rattle.state.specs.Ceilings.{UnderCeilings};
 
 use data::{Kind, LF, Line, Listing, Read, Refusal, Shape, State, Wire};
 
-// Refusal f at line k.
-pub fn refuse(f: Refusal, k: usize) -> Read
-    ensures { result ≡ not_read f k }
+// Refusal f at this line.
+pub fn refuse(f: Refusal, line: usize) -> Read
+    ensures { result ≡ not_read f line }
 {
-    let outcome = Err(f);
     let shape = Shape { s: 0, d: 0, n: 0 };
     let wires = listing::blank_wires();
-    let listing = Listing { shape, wires };
     Read {
-        outcome,
-        line: k,
-        listing,
+        outcome: Err(f),
+        line,
+        listing: Listing { shape, wires },
     }
 }
 
 fn finish(st: State) -> Read
     ensures { result ≡ read_all st }
 {
-    let outcome = Ok(());
-    let shape = Shape {
-        s: st.s,
-        d: st.d,
-        n: st.n,
-    };
-    let wires = st.wires;
-    let listing = Listing { shape, wires };
+    let State { s, d, n, wires, .. } = st;
+    let shape = Shape { s, d, n };
     Read {
-        outcome,
+        outcome: Ok(()),
         line: 0,
-        listing,
+        listing: Listing { shape, wires },
     }
 }
 
-// The lines that begin at `from`, of which the first has number 2.
-fn read_lines(text: &[u8], from: usize, start: State) -> Read
-    requires { (from ≤ length text.now) × UnderCeilings start }
-    ensures { result ≡ read_lines 2 start (lines_in (drop from text.now)) }
+// The lines of the text, of which the first has number 2.
+#[tactic(auto, using(crate::proofs::Laws::turns))]
+fn read_lines(text: &[u8], start: State) -> Read
+    requires { UnderCeilings start }
+    ensures { result ≡ read_lines 2 start (lines_in text.now) }
 {
-    let mut at = from;
-    let mut k: usize = 2;
+    let mut rest = text;
+    let mut k = 2;
     let mut st = start;
-    loop {
-        let rest = fields::tail(text, at);
-        let end = fields::part(rest, LF);
-        if end == rest.len() {
-            return finish(st);
+    while let Some((bytes, behind)) = fields::split_once(rest, LF) {
+        match taking::take_line(st, line::line_of(bytes)) {
+            Ok(next) => st = next,
+            Err(f) => return refuse(f, k),
         }
-        let l = line::line_of(fields::head(rest, end));
-        let r = taking::take_line(st, l);
-        let outcome = r.outcome;
-        match outcome {
-            Err(f) => {
-                return refuse(f, k);
-            }
-            Ok(()) => {}
-        }
-        let next = r.state;
-        st = next;
-        at = at + end + 1;
+        rest = behind;
         k += 1;
     }
+    finish(st)
 }
 
 // The records of the first n wires, shares of secrets of d shares each.
+#[tactic(auto, using(crate::proofs::Laws::shares_next), unfolding(document::specs::Reading::share_records))]
 fn share_records(n: usize, d: usize) -> [Wire; 128]
     requires { (n ≤ 128) × (0 < d) × (d ≤ 8) }
     ensures { result ≡ share_records d n }
 {
     let mut wires = listing::blank_wires();
-    let mut i = 0;
-    while i < n {
+    for i in 0..n {
         wires[i] = Wire {
             kind: Kind::Share,
             a: (i / d) as u8,
             b: (i % d) as u8,
             out: false,
         };
-        i += 1;
     }
     wires
 }
 
 // What is read when the first line is.
+#[tactic(auto, using(crate::proofs::Laws::in_few), unfolding(document::specs::Reading::begun))]
 fn begin(s: usize, d: usize) -> State
     requires { in_range s d ≡ true }
     ensures { result ≡ begun s d }
 {
     let n = s * d;
-    let wires = share_records(n, d);
     State {
         s,
         d,
@@ -107,34 +87,18 @@ fn begin(s: usize, d: usize) -> State
         pubs: 0,
         outs: 0,
         low: 0,
-        wires,
+        wires: share_records(n, d),
     }
 }
 
-// 4, and the lines behind the first.
-fn from_range(text: &[u8], from: usize, s: usize, d: usize) -> Read
-    requires { from ≤ length text.now }
-    ensures { result ≡ cond (in_range s d) (read_lines 2 (begun s d) (lines_in (drop from text.now))) (not_read Refusal.Range 1) }
+// 3, 4, and the lines behind the first.
+#[tactic(auto, using(crate::proofs::Laws::begun_bounded), unfolding(document::specs::Reading::from_header))]
+pub fn from_header(header: Option<Line>, rest: &[u8]) -> Read
+    ensures { result ≡ from_header header (lines_in rest.now) }
 {
-    if listing::in_range(s, d) {
-        return read_lines(text, from, begin(s, d));
-    }
-    refuse(Refusal::Range, 1)
-}
-
-// 3, 4, and the lines behind the first, which is l.
-pub fn from_header(text: &[u8], from: usize, l: Line) -> Read
-    requires { from ≤ length text.now }
-    ensures { result ≡ from_header l (lines_in (drop from text.now)) }
-{
-    match l {
-        Line::Head(s, d) => from_range(text, from, s, d),
-        Line::Bad => refuse(Refusal::Header, 1),
-        Line::Rand(_) => refuse(Refusal::Header, 1),
-        Line::Pub(_) => refuse(Refusal::Header, 1),
-        Line::Xor(_, _, _) => refuse(Refusal::Header, 1),
-        Line::And(_, _, _) => refuse(Refusal::Header, 1),
-        Line::Not(_, _) => refuse(Refusal::Header, 1),
-        Line::Out(_) => refuse(Refusal::Header, 1),
+    match header {
+        Some(Line::Head(s, d)) if listing::in_range(s, d) => read_lines(rest, begin(s, d)),
+        Some(Line::Head(_, _)) => refuse(Refusal::Range, 1),
+        _ => refuse(Refusal::Header, 1),
     }
 }

@@ -1,5 +1,5 @@
 -- Words of the theorems: lines whose numbers can be written, and the read that a routine's own text gives.
-use Rattle.std.specs.Prelude.{List, [], ◌∷◌, ◌++◌, ℕ, ◌-◌, ◌<◌, replicate}
+use Rattle.std.specs.Prelude.{Option, None, Some, List, [], ◌∷◌, ◌++◌, ℕ, ◌-◌, ◌<◌, replicate}
 use Rattle.data.specs.declared.Line.{Line}
 use Rattle.data.specs.declared.Line.TheVariants as L
 use Rattle.std.specs.Prelude.{Ok}
@@ -11,22 +11,22 @@ use Rattle.document.specs.Routine.{Routine, size, blank}
 -- ---- lines
 
 -- it is a line, and each of its numbers is below m
-abbrev pub Below : ℕ → Line → Type 0
-Below m L.Bad = ⊥
-Below m (L.Head s d) = (s < m) × (d < m)
-Below m (L.Rand w) = w < m
-Below m (L.Pub w) = w < m
-Below m (L.Xor w a b) = (w < m) × (a < m) × (b < m)
-Below m (L.And w a b) = (w < m) × (a < m) × (b < m)
-Below m (L.Not w a) = (w < m) × (a < m)
-Below m (L.Out w) = w < m
+abbrev pub Below : ℕ → Option Line → Type 0
+Below m None = ⊥
+Below m (Some (L.Head s d)) = (s < m) × (d < m)
+Below m (Some (L.Rand w)) = w < m
+Below m (Some (L.Pub w)) = w < m
+Below m (Some (L.Xor w a b)) = (w < m) × (a < m) × (b < m)
+Below m (Some (L.And w a b)) = (w < m) × (a < m) × (b < m)
+Below m (Some (L.Not w a)) = (w < m) × (a < m)
+Below m (Some (L.Out w)) = w < m
 
 -- a line whose numbers can be written
-abbrev pub Writable : Line → Type 0
+abbrev pub Writable : Option Line → Type 0
 Writable l = Below 1000 l
 
 -- true of each line
-abbrev pub Each : (Line → Type 0) → List Line → Type 0
+abbrev pub Each : (Option Line → Type 0) → List (Option Line) → Type 0
 Each P [] = Unit {0}
 Each P (l ∷ ls) = P l × Each P ls
 

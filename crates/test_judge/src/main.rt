@@ -30,7 +30,7 @@ fn show(out: &mut impl Write, input: &[u8]) -> io::Result<()> {
     let t = order_asked(asked);
     let behind = asked.len();
     if behind < input.len() {
-        let r = reader::read(fields::tail(input, behind + 1));
+        let r = reader::read(&input[behind + 1..]);
         let listing = r.listing;
         let j = judge::judge(listing, which, t);
         let v = j.verdict;

@@ -48,9 +48,11 @@ pub fn text_at(texts: &[u8], at: usize) -> &[u8]
     requires { at ≤ length texts.now }
     ensures { at + length result.now ≤ length texts.now }
 {
-    let rest = fields::tail(texts, at);
-    let end = fields::part(rest, 0);
-    fields::head(rest, end)
+    let rest = &texts[at..];
+    match fields::split_once(rest, 0) {
+        Some((text, _)) => text,
+        None => rest,
+    }
 }
 
 // ---- answers

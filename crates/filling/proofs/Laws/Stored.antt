@@ -1,5 +1,5 @@
 -- Of every read: no more than 128 records, and none of a refusal, so that its first n records may be stored.
-use Rattle.std.specs.Prelude.{◌≡◌, refl, ◌&&◌, cond, List, [], ◌∷◌, ◌++◌, ℕ, ◌+◌, ◌-◌, ◌≤◌, leb, ltb, eqb, length, take, drop, get_or}
+use Rattle.std.specs.Prelude.{◌≡◌, refl, ◌&&◌, cond, List, [], ◌∷◌, ℕ, ◌+◌, ◌-◌, ◌≤◌, leb, ltb, eqb, length, get_or}
 use Rattle.std.proofs.Math.Path.{ap}
 use Rattle.std.proofs.Common.{◌∙◌, zero-le, arith}
 use Rattle.data.specs.Basics.{each}
@@ -9,8 +9,7 @@ use Rattle.document.specs.Reading.{take_line, not_read, onward, read_lines, begu
 use Rattle.document.specs.Routine.{in_range}
 use Rattle.data.specs.declared.Line.{Line}
 use Rattle.data.specs.declared.Line.TheVariants as L
-use Rattle.data.specs.Refusals.{Outcome}
-use Rattle.std.specs.Prelude.{Ok, Err}
+use Rattle.std.specs.Prelude.{Option, None, Some, Result, Ok, Err}
 use Rattle.data.specs.declared.Read.{Read}
 use Rattle.data.specs.declared.Refusal.{Refusal}
 use Rattle.data.specs.declared.Refusal.TheVariants as No
@@ -30,31 +29,30 @@ record Storable (r : Read) : Type 0 where
 not_read_lem : (f : Refusal) (k : ℕ) → Storable (not_read f k)
 not_read_lem f k = record { few = zero-le; whole = λ list. refl }
 
-onward_storable : (o : Outcome) (k : ℕ) (r : Read) → Storable r → Storable (onward o k r)
-onward_storable (Ok u) k r h = h
-onward_storable (Err f) k r h = not_read_lem f k
+onward_storable : (o : Result State Refusal) (k : ℕ) (rest : State → Read) → ((next : State) → o ≡ Ok next → Storable (rest next)) → Storable (onward o k rest)
+onward_storable (Ok next) k rest h = h next refl
+onward_storable (Err f) k rest h = not_read_lem f k
 
-lines_storable : (k : ℕ) (st : State) (ls : List Line) → UnderCeilings st → Storable (read_lines k st ls)
+lines_storable : (k : ℕ) (st : State) (ls : List (Option Line)) → UnderCeilings st → Storable (read_lines k st ls)
 unfolding read_lines
 lines_storable k st [] g = record { few = g.few_wires; whole = λ list. refl }
 lines_storable k st (l ∷ ls) g =
-    let next = (take_line st l).state in
-    onward_storable (take_line st l).outcome k (read_lines (k + 1) next ls) (lines_storable (k + 1) next ls (take_bounded st l g))
+    onward_storable (take_line st l) k (λ next. read_lines (k + 1) next ls) (λ next e. lines_storable (k + 1) next ls (take_bounded st l next g e))
 
-header_storable : (l : Line) (ls : List Line) → Storable (from_header l ls)
+header_storable : (l : Option Line) (ls : List (Option Line)) → Storable (from_header l ls)
 unfolding from_header
-header_storable (L.Head s d) ls =
+header_storable (Some (L.Head s d)) ls =
     cond_cases Storable (in_range s d) (read_lines 2 (begun s d) ls) (not_read No.Range 1)
     (λ t. lines_storable 2 (begun s d) ls (begun_bounded s d t)) (λ _. not_read_lem No.Range 1)
-header_storable L.Bad ls = not_read_lem No.Header 1
-header_storable (L.Rand w) ls = not_read_lem No.Header 1
-header_storable (L.Pub w) ls = not_read_lem No.Header 1
-header_storable (L.Xor w a b) ls = not_read_lem No.Header 1
-header_storable (L.And w a b) ls = not_read_lem No.Header 1
-header_storable (L.Not w a) ls = not_read_lem No.Header 1
-header_storable (L.Out w) ls = not_read_lem No.Header 1
+header_storable None ls = not_read_lem No.Header 1
+header_storable (Some (L.Rand w)) ls = not_read_lem No.Header 1
+header_storable (Some (L.Pub w)) ls = not_read_lem No.Header 1
+header_storable (Some (L.Xor w a b)) ls = not_read_lem No.Header 1
+header_storable (Some (L.And w a b)) ls = not_read_lem No.Header 1
+header_storable (Some (L.Not w a)) ls = not_read_lem No.Header 1
+header_storable (Some (L.Out w)) ls = not_read_lem No.Header 1
 
-first_storable : (ls : List Line) → Storable (from_first ls)
+first_storable : (ls : List (Option Line)) → Storable (from_first ls)
 unfolding from_first
 first_storable [] = not_read_lem No.Header 1
 first_storable (l ∷ ls) = header_storable l ls

@@ -6,6 +6,7 @@ use Rattle.document.specs.Writing.{line_of_kind}
 use Rattle.data.specs.declared.Kind.{Kind}
 use Rattle.data.specs.declared.Kind.TheVariants as K
 use Rattle.data.specs.declared.Line.{Line}
+use Rattle.std.specs.Prelude.{Option, Some}
 use Rattle.data.specs.declared.Line.TheVariants as L
 use Rattle.data.specs.declared.Word.TheVariants as W
 use Rattle.pieces.specs.Pieces.{line1, line2, line3, of_kind, of_mark}
@@ -38,7 +39,7 @@ kind_line w K.Xor a b t h = join_3 (spelled W.Xor) w a b t
 kind_line w K.And a b t h = join_3 (spelled W.And) w a b t
 kind_line w K.Not a b t h = join_2 (spelled W.Not) w a t
 
-pub mark_line : (w : ℕ) (b : Bool) (ls : List Line) → text_of_lines (cond b (L.Out w ∷ ls) ls) ≡ of_mark w b ++ text_of_lines ls
+pub mark_line : (w : ℕ) (b : Bool) (ls : List (Option Line)) → text_of_lines (cond b (Some (L.Out w) ∷ ls) ls) ≡ of_mark w b ++ text_of_lines ls
 unfolding text_of_lines of_mark
 mark_line w true ls = join_1 (spelled W.Out) w (text_of_lines ls)
 mark_line w false ls = refl

@@ -1,5 +1,5 @@
 -- Worked texts: what reading each of them gives, computed from the definitions and proved together as one list.
-use Rattle.std.specs.Prelude.{◌≡◌, refl, List, [], ◌∷◌, ◌++◌, map, ℕ, zero, suc, replicate}
+use Rattle.std.specs.Prelude.{◌≡◌, refl, Option, Some, List, [], ◌∷◌, ◌++◌, map, ℕ, zero, suc, replicate}
 use Prim.Native.Char.{code}
 use Prim.Native.String.{String, [] as none, ◌∷◌ as ◌then◌}
 use Rattle.data.specs.Refusals.{number_of}
@@ -41,17 +41,17 @@ abbrev refuses : List ℕ → ℕ → ℕ → Case
 refuses t f k = record { text = t; says = f ∷ k ∷ 0 ∷ 0 ∷ 0 ∷ [] }
 
 -- the lines `f w`, m of them, from wire w on
-unfoldable pub lines_from : (ℕ → Line) → ℕ → ℕ → List Line
+unfoldable pub lines_from : (ℕ → Line) → ℕ → ℕ → List (Option Line)
 lines_from f zero w = []
-lines_from f (suc m) w = f w ∷ lines_from f m (suc w)
+lines_from f (suc m) w = Some (f w) ∷ lines_from f m (suc w)
 
 -- 1 secret of 2 shares, m wires more, and these lines behind them
-unfoldable pub small : (ℕ → Line) → ℕ → List Line → List ℕ
-small f m ls = text_of_lines (Head 1 2 ∷ lines_from f m 2 ++ ls)
+unfoldable pub small : (ℕ → Line) → ℕ → List (Option Line) → List ℕ
+small f m ls = text_of_lines (Some (Head 1 2) ∷ lines_from f m 2 ++ ls)
 
 -- 8 secrets of 8 shares, the first m of them outputs, and these lines behind them
-unfoldable pub wide : ℕ → List Line → List ℕ
-wide m ls = text_of_lines (Head 8 8 ∷ lines_from Out m 0 ++ ls)
+unfoldable pub wide : ℕ → List (Option Line) → List ℕ
+wide m ls = text_of_lines (Some (Head 8 8) ∷ lines_from Out m 0 ++ ls)
 
 -- 10.1: the text of Example A
 abbrev pub text_a : List ℕ
@@ -94,7 +94,7 @@ worked_cases =
     -- 7, before 8
     ∷ refuses (bytes "routine\t1\t2\nxor\t2\t2\t0\n") 7 2
     ∷ refuses (bytes "routine\t1\t2\nnot\t2\t3\n") 7 2
-    ∷ refuses (small (λ w. Not w 0) 126 (Not 128 128 ∷ [])) 7 128
+    ∷ refuses (small (λ w. Not w 0) 126 (Some (Not 128 128) ∷ [])) 7 128
     -- 8, by 7.8 and 10.18: there may be a wire 127, but none numbered 128; 8 before 9 (1.44)
     ∷ reads (small (λ w. Not w 0) 126 []) 1 2 128
     ∷ refuses (small (λ w. Not w 0) 127 []) 8 128
@@ -103,7 +103,7 @@ worked_cases =
     ∷ reads (small Pub 16 []) 1 2 18
     ∷ refuses (small Pub 17 []) 8 18
     ∷ reads (wide 64 []) 8 8 64
-    ∷ refuses (wide 64 (Out 0 ∷ [])) 8 66
+    ∷ refuses (wide 64 (Some (Out 0) ∷ [])) 8 66
     -- 9; the first line at fault is the one that counts
     ∷ refuses (bytes "routine\t1\t2\nout\t2\n") 9 2
     ∷ refuses (bytes "routine\t1\t2\nout\t1\nout\t1\n") 9 3

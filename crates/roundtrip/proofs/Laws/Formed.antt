@@ -7,6 +7,7 @@ use native.Mathlib.Omega.{arith}
 use Rattle.data.specs.declared.Kind.{Kind}
 use Rattle.data.specs.declared.Kind.TheVariants as K
 use Rattle.data.specs.declared.Line.{Line}
+use Rattle.std.specs.Prelude.{Option, Some}
 use Rattle.data.specs.declared.Line.TheVariants as L
 use Rattle.data.specs.Basics.{each, all}
 use Rattle.document.specs.Routine.{Routine, size, wire, rands_before, pubs_before, outputs, in_range, fits, record_fits_lem, ceilings, well_formed, operands_of}
@@ -165,7 +166,7 @@ module _ (R : Routine) (f : Formed R) where
   pub wire_below : (w : ℕ) → R.S * R.D ≤ w → w < size R → Below 128 (wire_line R w)
   wire_below w h l = made_below 128 w (wire R w).kind (wire R w).a (wire R w).b (let z = f.wide in omega arith) (wire_made w h l)
 
-  pub head_below : Below 128 (L.Head R.S R.D)
+  pub head_below : Below 128 (Some (L.Head R.S R.D))
   head_below = let r = ranged_is R.S R.D f.ranged in (omega arith, omega arith)
 
   wires_below : (m w : ℕ) → R.S * R.D ≤ w → w + m ≤ size R → Each (Below 128) (wire_lines R m w)
@@ -177,7 +178,7 @@ module _ (R : Routine) (f : Formed R) where
   unfolding out_lines
   outs_below zero w l = tt
   outs_below (suc m) w l = go (wire R w).out (outs_below m (suc w) (omega arith)) where
-    go : (b : Bool) → Each (Below 128) (out_lines R m (suc w)) → Each (Below 128) (cond b (L.Out w ∷ out_lines R m (suc w)) (out_lines R m (suc w)))
+    go : (b : Bool) → Each (Below 128) (out_lines R m (suc w)) → Each (Below 128) (cond b (Some (L.Out w) ∷ out_lines R m (suc w)) (out_lines R m (suc w)))
     go false g = g
     go true g = (let z = f.wide in let y : w < 128 = omega arith in y, g)
 
@@ -189,7 +190,7 @@ module _ (R : Routine) (f : Formed R) where
         (wires_below (size R - R.S * R.D) (R.S * R.D) (omega arith) (let z = f.shares in omega arith)) (outs_below (size R) 0 (omega arith)),
   )
 
-pub each_writable : (ls : List Line) → Each (Below 128) ls → Each Writable ls
+pub each_writable : (ls : List (Option Line)) → Each (Below 128) ls → Each Writable ls
 each_writable [] h = tt
 each_writable (l ∷ ls) h = (below_more 128 1000 l (omega arith) h.0, each_writable ls h.1)
 
@@ -208,9 +209,9 @@ unfolding out_lines text_of_lines
 outs_short R zero w = omega arith
 outs_short R (suc m) w = go (wire R w).out (outs_short R m (suc w)) where
   go : (b : Bool) → length (text_of_lines (out_lines R m (suc w))) ≤ m * 8
-      → length (text_of_lines (cond b (L.Out w ∷ out_lines R m (suc w)) (out_lines R m (suc w)))) ≤ suc m * 8
+      → length (text_of_lines (cond b (Some (L.Out w) ∷ out_lines R m (suc w)) (out_lines R m (suc w)))) ≤ suc m * 8
   go false y = rw (suc-mul m 8) (omega arith)
-  go true y = rw (suc-mul m 8) (omega (arith, out_short w, length-append (line_text (L.Out w)) (lf ∷ text_of_lines (out_lines R m (suc w)))))
+  go true y = rw (suc-mul m 8) (omega (arith, out_short w, length-append (line_text (Some (L.Out w))) (lf ∷ text_of_lines (out_lines R m (suc w)))))
 
 -- the first line, at most 128 wire lines and 128 `out` lines
 pub text_short : (R : Routine) → size R ≤ 128 → length (text_of R) ≤ 3088
@@ -222,4 +223,4 @@ text_short R h =
     let a = wires_short R m (R.S * R.D) in
     let b = outs_short R (size R) 0 in
     let e = ap length (text_append v o) ∙ length-append (text_of_lines v) (text_of_lines o) in
-    omega (arith, line_short (L.Head R.S R.D), length-append (line_text (L.Head R.S R.D)) (lf ∷ text_of_lines (v ++ o)))
+    omega (arith, line_short (Some (L.Head R.S R.D)), length-append (line_text (Some (L.Head R.S R.D))) (lf ∷ text_of_lines (v ++ o)))

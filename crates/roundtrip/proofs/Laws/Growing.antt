@@ -12,6 +12,7 @@ use Rattle.data.specs.declared.Kind.{Kind}
 use Rattle.data.specs.declared.Kind.TheVariants as K
 use Rattle.data.specs.declared.Wire.{Wire}
 use Rattle.data.specs.declared.Line.{Line}
+use Rattle.std.specs.Prelude.{Option, Some}
 use Rattle.data.specs.declared.Line.TheVariants as L
 use Rattle.data.specs.Basics.{one, tally}
 use Rattle.document.specs.Routine.{Routine, size, wire, blank, is_rand, is_pub, rands_before, pubs_before, outputs, fits, record_fits_lem}
@@ -28,13 +29,13 @@ wires_same : (R R' : Routine) (m w : ℕ) → ((j : ℕ) → w ≤ j → j < w +
 unfolding wire_lines
 wires_same R R' zero w f = refl
 wires_same R R' (suc m) w f =
-    ap₂ (λ (l : Line) (ls : List Line). l ∷ ls) (f w (omega arith) (omega arith)) (wires_same R R' m (suc w) (λ j g h. f j (omega arith) (omega arith)))
+    ap₂ (λ (l : Option Line) (ls : List (Option Line)). l ∷ ls) (f w (omega arith) (omega arith)) (wires_same R R' m (suc w) (λ j g h. f j (omega arith) (omega arith)))
 
 outs_same : (R R' : Routine) (m w : ℕ) → ((j : ℕ) → w ≤ j → j < w + m → (wire R j).out ≡ (wire R' j).out) → out_lines R m w ≡ out_lines R' m w
 unfolding out_lines
 outs_same R R' zero w f = refl
 outs_same R R' (suc m) w f =
-    ap₂ (λ (b : Bool) (ls : List Line). cond b (L.Out w ∷ ls) ls) (f w (omega arith) (omega arith))
+    ap₂ (λ (b : Bool) (ls : List (Option Line)). cond b (Some (L.Out w) ∷ ls) ls) (f w (omega arith) (omega arith))
     (outs_same R R' m (suc w) (λ j g h. f j (omega arith) (omega arith)))
 
 pub outs_none : (R : Routine) (m w : ℕ) → ((j : ℕ) → w ≤ j → j < w + m → (wire R j).out ≡ false) → out_lines R m w ≡ []
@@ -47,7 +48,7 @@ unfolding wire_lines
 wires_last R zero w = let z : w ≡ w + 0 = omega arith in ap (λ (n : ℕ). wire_line R n ∷ []) z
 wires_last R (suc m) w =
     let z : suc w + m ≡ w + suc m = omega arith in
-    ap (λ (ls : List Line). wire_line R w ∷ ls) (wires_last R m (suc w) ∙ ap (λ (n : ℕ). wire_lines R m (suc w) ++ wire_line R n ∷ []) z)
+    ap (λ (ls : List (Option Line)). wire_line R w ∷ ls) (wires_last R m (suc w) ∙ ap (λ (n : ℕ). wire_lines R m (suc w) ++ wire_line R n ∷ []) z)
 
 outs_split : (R : Routine) (m i w : ℕ) → out_lines R (m + i) w ≡ out_lines R m w ++ out_lines R i (w + m)
 unfolding out_lines
@@ -57,9 +58,9 @@ outs_split R (suc m) i w =
     let y : suc w + m ≡ w + suc m = omega arith in
     ap (λ (n : ℕ). out_lines R n w) z ∙ go (wire R w).out (outs_split R m i (suc w) ∙ ap (λ (n : ℕ). out_lines R m (suc w) ++ out_lines R i n) y) where
       go : (b : Bool) → out_lines R (m + i) (suc w) ≡ out_lines R m (suc w) ++ out_lines R i (w + suc m)
-          → cond b (L.Out w ∷ out_lines R (m + i) (suc w)) (out_lines R (m + i) (suc w))
-          ≡ cond b (L.Out w ∷ out_lines R m (suc w)) (out_lines R m (suc w)) ++ out_lines R i (w + suc m)
-      go true e = ap (λ (ls : List Line). L.Out w ∷ ls) e
+          → cond b (Some (L.Out w) ∷ out_lines R (m + i) (suc w)) (out_lines R (m + i) (suc w))
+          ≡ cond b (Some (L.Out w) ∷ out_lines R m (suc w)) (out_lines R m (suc w)) ++ out_lines R i (w + suc m)
+      go true e = ap (λ (ls : List (Option Line)). Some (L.Out w) ∷ ls) e
       go false e = e
 
 -- ---- other records
@@ -153,11 +154,11 @@ module _ (R : Routine) (x : Wire) where
         let old = outs_none R (size R) 0 (λ j g h. none j (omega arith)) in
         let same = wires_same (more R x) R m n (λ j g h. ap (λ (v : Wire). line_of_kind j v.kind v.a v.b) (more_old j (omega arith))) in
         let last = ap (wire_line (more R x)) q ∙ ap (λ (v : Wire). line_of_kind (size R) v.kind v.a v.b) more_new in
-        let made-lines = ap (λ (i : ℕ). wire_lines (more R x) i n) z ∙ wires_last (more R x) m n ∙ ap₂ (λ (v : List Line) (l : Line). v ++ l ∷ []) same last in
-        ap₂ (λ (v o : List Line). L.Head R.S R.D ∷ (v ++ o)) made-lines new
-        ∙ ap (λ (v : List Line). L.Head R.S R.D ∷ v) (append-nil (wire_lines R m n ++ line_of_kind (size R) x.kind x.a x.b ∷ [])
-        ∙ ap (λ (v : List Line). v ++ line_of_kind (size R) x.kind x.a x.b ∷ [])
-        (sym (append-nil (wire_lines R m n)) ∙ ap (λ (o : List Line). wire_lines R m n ++ o) (sym old)))
+        let made-lines = ap (λ (i : ℕ). wire_lines (more R x) i n) z ∙ wires_last (more R x) m n ∙ ap₂ (λ (v : List (Option Line)) (l : Option Line). v ++ l ∷ []) same last in
+        ap₂ (λ (v o : List (Option Line)). Some (L.Head R.S R.D) ∷ (v ++ o)) made-lines new
+        ∙ ap (λ (v : List (Option Line)). Some (L.Head R.S R.D) ∷ v) (append-nil (wire_lines R m n ++ line_of_kind (size R) x.kind x.a x.b ∷ [])
+        ∙ ap (λ (v : List (Option Line)). v ++ line_of_kind (size R) x.kind x.a x.b ∷ [])
+        (sym (append-nil (wire_lines R m n)) ∙ ap (λ (o : List (Option Line)). wire_lines R m n ++ o) (sym old)))
 
 -- ---- one wire marked
 
@@ -216,7 +217,7 @@ module _ (R : Routine) (w : ℕ) where
     }
 
     -- its `out` line is the last one, as long as no wire from it on is marked
-    pub lines_marking : ((j : ℕ) → w ≤ j → j < size R → (wire R j).out ≡ false) → lines_of (marking R w) ≡ lines_of R ++ L.Out w ∷ []
+    pub lines_marking : ((j : ℕ) → w ≤ j → j < size R → (wire R j).out ≡ false) → lines_of (marking R w) ≡ lines_of R ++ Some (L.Out w) ∷ []
     unfolding lines_of out_lines
     lines_marking none =
         let R' = marking R w in
@@ -230,11 +231,11 @@ module _ (R : Routine) (w : ℕ) where
         let above = outs_none R' m (suc w)
         (λ j g h. ap (λ (v : Wire). v.out) (marking_other j (λ e. let v : ⊥ = omega arith in v)) ∙ none j (omega arith) (omega arith)) in
         let here-is : (wire R' w).out ≡ true = ap (λ (v : Wire). v.out) marking_here in
-        let tail : out_lines R' (suc m) w ≡ L.Out w ∷ [] = rw here-is (ap (λ (ls : List Line). L.Out w ∷ ls) above) in
+        let tail : out_lines R' (suc m) w ≡ Some (L.Out w) ∷ [] = rw here-is (ap (λ (ls : List (Option Line)). Some (L.Out w) ∷ ls) above) in
         let old : out_lines R (suc m) w ≡ [] = outs_none R (suc m) w (λ j g h. none j g (omega arith)) in
         let new-outs = ap (λ (i : ℕ). out_lines R' i 0) (size_marking ∙ z) ∙ outs_split R' w (suc m) 0
-        ∙ ap₂ (λ (v u : List Line). v ++ u) below (ap (out_lines R' (suc m)) y ∙ tail) in
+        ∙ ap₂ (λ (v u : List (Option Line)). v ++ u) below (ap (out_lines R' (suc m)) y ∙ tail) in
         let old-outs = ap (λ (i : ℕ). out_lines R i 0) z ∙ outs_split R w (suc m) 0
-        ∙ ap (λ (u : List Line). out_lines R w 0 ++ u) (ap (out_lines R (suc m)) y ∙ old) ∙ append-nil (out_lines R w 0) in
-        ap₂ (λ (v o : List Line). L.Head R.S R.D ∷ (v ++ o)) wires_are (new-outs ∙ ap (λ (v : List Line). v ++ L.Out w ∷ []) (sym old-outs))
-        ∙ ap (λ (v : List Line). L.Head R.S R.D ∷ v) (sym (append_assoc (wire_lines R (size R - n) n) (out_lines R (size R) 0) (L.Out w ∷ [])))
+        ∙ ap (λ (u : List (Option Line)). out_lines R w 0 ++ u) (ap (out_lines R (suc m)) y ∙ old) ∙ append-nil (out_lines R w 0) in
+        ap₂ (λ (v o : List (Option Line)). Some (L.Head R.S R.D) ∷ (v ++ o)) wires_are (new-outs ∙ ap (λ (v : List (Option Line)). v ++ Some (L.Out w) ∷ []) (sym old-outs))
+        ∙ ap (λ (v : List (Option Line)). Some (L.Head R.S R.D) ∷ v) (sym (append_assoc (wire_lines R (size R - n) n) (out_lines R (size R) 0) (Some (L.Out w) ∷ [])))

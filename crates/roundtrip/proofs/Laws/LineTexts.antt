@@ -1,5 +1,5 @@
 -- A written line is read back as itself, and a written text as its lines.
-use Rattle.std.specs.Prelude.{◌≡◌, refl, Bool, true, false, ◌&&◌, ◌||◌, List, [], ◌∷◌, ◌++◌, map, ℕ, ◌+◌, ◌-◌, ◌/◌, ◌%◌, ◌≤◌, ◌<◌, leb, ltb, length, get_or}
+use Rattle.std.specs.Prelude.{◌≡◌, refl, Bool, true, false, ◌&&◌, ◌||◌, Option, None, Some, List, [], ◌∷◌, ◌++◌, map, ℕ, ◌+◌, ◌-◌, ◌/◌, ◌%◌, ◌≤◌, ◌<◌, leb, ltb, length, get_or}
 use Rattle.std.proofs.Common.{sym, ap, ap₂, ◌∙◌, append_assoc, arith, length-append, get_or-append-add, leb-true, ltb-true, ltb-false, le-leb, ne_eqb}
 use Rattle.std.proofs.Math.Bool.{or-true}
 use Rattle.data.specs.declared.Line.{Line}
@@ -83,16 +83,16 @@ plain_decimal n h = go (ltb n 10) (ltb n 100) refl refl where
         digit_plain (digit_zero + n % 10) (omega arith) (omega arith),
       )
 
-plains_line : (l : Line) → Writable l → field_bytes (fields_of l) ≡ true
+plains_line : (l : Option Line) → Writable l → field_bytes (fields_of l) ≡ true
 unfolding field_bytes each field_byte
-plains_line L.Bad h = absurd h
-plains_line (L.Head s d) h = simp (plain_decimal s h.0, plain_decimal d h.1)
-plains_line (L.Rand w) h = simp (plain_decimal w h)
-plains_line (L.Pub w) h = simp (plain_decimal w h)
-plains_line (L.Xor w a b) h = simp (plain_decimal w h.0, plain_decimal a h.1, plain_decimal b h.2)
-plains_line (L.And w a b) h = simp (plain_decimal w h.0, plain_decimal a h.1, plain_decimal b h.2)
-plains_line (L.Not w a) h = simp (plain_decimal w h.0, plain_decimal a h.1)
-plains_line (L.Out w) h = simp (plain_decimal w h)
+plains_line None h = absurd h
+plains_line (Some (L.Head s d)) h = simp (plain_decimal s h.0, plain_decimal d h.1)
+plains_line (Some (L.Rand w)) h = simp (plain_decimal w h)
+plains_line (Some (L.Pub w)) h = simp (plain_decimal w h)
+plains_line (Some (L.Xor w a b)) h = simp (plain_decimal w h.0, plain_decimal a h.1, plain_decimal b h.2)
+plains_line (Some (L.And w a b)) h = simp (plain_decimal w h.0, plain_decimal a h.1, plain_decimal b h.2)
+plains_line (Some (L.Not w a)) h = simp (plain_decimal w h.0, plain_decimal a h.1)
+plains_line (Some (L.Out w)) h = simp (plain_decimal w h)
 
 join_letters : (p : List ℕ) (ps : List (List ℕ)) → field_bytes (p ∷ ps) ≡ true → each letter (join tab (p ∷ ps)) ≡ true
 unfolding field_bytes join each
@@ -102,12 +102,12 @@ join_letters p (q ∷ ps) h =
     each_append letter p (tab ∷ join tab (q ∷ ps)) (letters_plain p t.0) (join_letters q ps t.1)
 
 -- what is true of a written line
-pub record WrittenLine (l : Line) : Type 0 where
+pub record WrittenLine (l : Option Line) : Type 0 where
   pub back : line_of (line_text l) ≡ l
   pub no_lf : free lf (line_text l) ≡ true
   pub typed : each letter (line_text l) ≡ true
 
-written_fields : (p : List ℕ) (ps : List (List ℕ)) (l : Line) → fields_of l ≡ p ∷ ps → Writable l → WrittenLine l
+written_fields : (p : List ℕ) (ps : List (List ℕ)) (l : Option Line) → fields_of l ≡ p ∷ ps → Writable l → WrittenLine l
 written_fields p ps l e h =
     let g : field_bytes (p ∷ ps) ≡ true = ap field_bytes (sym e) ∙ plains_line l h in
     let parted = cut_join tab p ps (frees_plains tab (p ∷ ps) (omega arith) g) in
@@ -117,51 +117,51 @@ written_fields p ps l e h =
       typed = ap (λ (f : List (List ℕ)). each letter (join tab f)) e ∙ join_letters p ps g;
     }
 
-pub written_line : (l : Line) → Writable l → WrittenLine l
-written_line L.Bad h = absurd h
-written_line (L.Head s d) h = written_fields _ _ (L.Head s d) refl h
-written_line (L.Rand w) h = written_fields _ _ (L.Rand w) refl h
-written_line (L.Pub w) h = written_fields _ _ (L.Pub w) refl h
-written_line (L.Xor w a b) h = written_fields _ _ (L.Xor w a b) refl h
-written_line (L.And w a b) h = written_fields _ _ (L.And w a b) refl h
-written_line (L.Not w a) h = written_fields _ _ (L.Not w a) refl h
-written_line (L.Out w) h = written_fields _ _ (L.Out w) refl h
+pub written_line : (l : Option Line) → Writable l → WrittenLine l
+written_line None h = absurd h
+written_line (Some (L.Head s d)) h = written_fields _ _ (Some (L.Head s d)) refl h
+written_line (Some (L.Rand w)) h = written_fields _ _ (Some (L.Rand w)) refl h
+written_line (Some (L.Pub w)) h = written_fields _ _ (Some (L.Pub w)) refl h
+written_line (Some (L.Xor w a b)) h = written_fields _ _ (Some (L.Xor w a b)) refl h
+written_line (Some (L.And w a b)) h = written_fields _ _ (Some (L.And w a b)) refl h
+written_line (Some (L.Not w a)) h = written_fields _ _ (Some (L.Not w a)) refl h
+written_line (Some (L.Out w)) h = written_fields _ _ (Some (L.Out w)) refl h
 
 -- bytes that make a line are those it is written with
-pub line_text_lem : (b : List ℕ) → (line_of b ≡ L.Bad → ⊥) → line_text (line_of b) ≡ b
+pub line_text_lem : (b : List ℕ) → (line_of b ≡ None → ⊥) → line_text (line_of b) ≡ b
 line_text_lem b h = ap (join tab) (sym (fields_line (cut tab b) h)) ∙ join_cut tab b
 
 -- ---- all lines
 
-pub each_lines : (P : Line → Type 0) (xs ys : List Line) → Each P xs → Each P ys → Each P (xs ++ ys)
+pub each_lines : (P : Option Line → Type 0) (xs ys : List (Option Line)) → Each P xs → Each P ys → Each P (xs ++ ys)
 each_lines P [] ys h k = k
 each_lines P (x ∷ xs) ys h k = (h.0, each_lines P xs ys h.1 k)
 
 -- what is true of a text of such lines
-pub record WrittenText (ls : List Line) : Type 0 where
+pub record WrittenText (ls : List (Option Line)) : Type 0 where
   pub back : lines_in (text_of_lines ls) ≡ ls
   pub typed : each letter (text_of_lines ls) ≡ true
 
-text_ended : (ls : List Line) → text_of_lines ls ≡ ended (map line_text ls)
+text_ended : (ls : List (Option Line)) → text_of_lines ls ≡ ended (map line_text ls)
 unfolding text_of_lines ended
 text_ended [] = refl
 text_ended (l ∷ ls) = ap (λ (r : List ℕ). line_text l ++ lf ∷ r) (text_ended ls)
 
-lines_back : (ls : List Line) → Each Writable ls → map line_of (map line_text ls) ≡ ls
+lines_back : (ls : List (Option Line)) → Each Writable ls → map line_of (map line_text ls) ≡ ls
 lines_back [] h = refl
-lines_back (l ∷ ls) h = ap₂ (λ (x : Line) (xs : List Line). x ∷ xs) (written_line l h.0).back (lines_back ls h.1)
+lines_back (l ∷ ls) h = ap₂ (λ (x : Option Line) (xs : List (Option Line)). x ∷ xs) (written_line l h.0).back (lines_back ls h.1)
 
-lines_free : (ls : List Line) → Each Writable ls → frees lf (map line_text ls) ≡ true
+lines_free : (ls : List (Option Line)) → Each Writable ls → frees lf (map line_text ls) ≡ true
 unfolding frees
 lines_free [] h = refl
 lines_free (l ∷ ls) h = and_i _ _ (written_line l h.0).no_lf (lines_free ls h.1)
 
-lines_typed : (ls : List Line) → Each Writable ls → each letter (text_of_lines ls) ≡ true
+lines_typed : (ls : List (Option Line)) → Each Writable ls → each letter (text_of_lines ls) ≡ true
 unfolding text_of_lines each
 lines_typed [] h = refl
 lines_typed (l ∷ ls) h = each_append letter (line_text l) (lf ∷ text_of_lines ls) (written_line l h.0).typed (lines_typed ls h.1)
 
-pub texts : (ls : List Line) → Each Writable ls → WrittenText ls
+pub texts : (ls : List (Option Line)) → Each Writable ls → WrittenText ls
 texts ls h = record {
   back = ap lines_in (text_ended ls) ∙ ap (map line_of) (heads_ended (map line_text ls) (lines_free ls h)) ∙ lines_back ls h;
   typed = lines_typed ls h;
@@ -180,17 +180,17 @@ last_append xs ys h =
     let z : length (xs ++ ys) - 1 ≡ length xs + (length ys - 1) = omega (arith, length-append xs ys) in
     ap (λ (n : ℕ). get_or (xs ++ ys) n 0) z ∙ get_or-append-add xs ys (length ys - 1) 0
 
-pub text_some : (l : Line) (ls : List Line) → 0 < length (text_of_lines (l ∷ ls))
+pub text_some : (l : Option Line) (ls : List (Option Line)) → 0 < length (text_of_lines (l ∷ ls))
 unfolding text_of_lines
 text_some l ls = omega (arith, length-append (line_text l) (lf ∷ text_of_lines ls))
 
-pub text_last : (l : Line) (ls : List Line) → get_or (text_of_lines (l ∷ ls)) (length (text_of_lines (l ∷ ls)) - 1) 0 ≡ lf
+pub text_last : (l : Option Line) (ls : List (Option Line)) → get_or (text_of_lines (l ∷ ls)) (length (text_of_lines (l ∷ ls)) - 1) 0 ≡ lf
 unfolding text_of_lines
 text_last l [] = last_append (line_text l) (lf ∷ []) (omega arith)
 text_last l (m ∷ ls) =
     last_append (line_text l) (lf ∷ text_of_lines (m ∷ ls)) (omega arith) ∙ last_append (lf ∷ []) (text_of_lines (m ∷ ls)) (text_some m ls) ∙ text_last m ls
 
-pub text_append : (xs ys : List Line) → text_of_lines (xs ++ ys) ≡ text_of_lines xs ++ text_of_lines ys
+pub text_append : (xs ys : List (Option Line)) → text_of_lines (xs ++ ys) ≡ text_of_lines xs ++ text_of_lines ys
 unfolding text_of_lines
 text_append [] ys = refl
 text_append (x ∷ xs) ys = ap (λ (r : List ℕ). line_text x ++ lf ∷ r) (text_append xs ys) ∙ sym (append_assoc (line_text x) (lf ∷ text_of_lines xs) (text_of_lines ys))
@@ -204,17 +204,17 @@ decimal_short n = go (ltb n 10) (ltb n 100) refl refl where
   go false false e f = simp (e, f) (omega arith)
 
 -- the longest line is an `xor` or `and` of three numbers, or the first: 15 bytes and its LF
-pub line_short : (l : Line) → length (line_text l) ≤ 15
+pub line_short : (l : Option Line) → length (line_text l) ≤ 15
 unfolding join
-line_short L.Bad = omega arith
-line_short (L.Head s d) = simp length-append (omega (arith, decimal_short s, decimal_short d))
-line_short (L.Rand w) = omega (arith, decimal_short w)
-line_short (L.Pub w) = omega (arith, decimal_short w)
-line_short (L.Xor w a b) = simp length-append (omega (arith, decimal_short w, decimal_short a, decimal_short b))
-line_short (L.And w a b) = simp length-append (omega (arith, decimal_short w, decimal_short a, decimal_short b))
-line_short (L.Not w a) = simp length-append (omega (arith, decimal_short w, decimal_short a))
-line_short (L.Out w) = omega (arith, decimal_short w)
+line_short None = omega arith
+line_short (Some (L.Head s d)) = simp length-append (omega (arith, decimal_short s, decimal_short d))
+line_short (Some (L.Rand w)) = omega (arith, decimal_short w)
+line_short (Some (L.Pub w)) = omega (arith, decimal_short w)
+line_short (Some (L.Xor w a b)) = simp length-append (omega (arith, decimal_short w, decimal_short a, decimal_short b))
+line_short (Some (L.And w a b)) = simp length-append (omega (arith, decimal_short w, decimal_short a, decimal_short b))
+line_short (Some (L.Not w a)) = simp length-append (omega (arith, decimal_short w, decimal_short a))
+line_short (Some (L.Out w)) = omega (arith, decimal_short w)
 
-pub out_short : (w : ℕ) → length (line_text (L.Out w)) ≤ 7
+pub out_short : (w : ℕ) → length (line_text (Some (L.Out w))) ≤ 7
 unfolding join
 out_short w = omega (arith, decimal_short w)

@@ -8,8 +8,7 @@ use Rattle.data.specs.declared.Line.{Line}
 use Rattle.data.specs.declared.Line.TheVariants as L
 use Rattle.data.specs.declared.Refusal.{Refusal}
 use Rattle.data.specs.declared.Refusal.TheVariants as No
-use Rattle.data.specs.Refusals.{Outcome}
-use Rattle.std.specs.Prelude.{Ok, Err}
+use Rattle.std.specs.Prelude.{Option, None, Some, Result, Ok, Err}
 use Rattle.data.specs.declared.State.{State}
 use Rattle.data.specs.declared.Read.{Read}
 use Rattle.data.proofs.Laws.Tests.{both, wire_cases}
@@ -32,13 +31,13 @@ use Rattle.roundtrip.proofs.Laws.Shares.{only_shares, shares_wire, shares_holds,
 -- ---- line by line
 
 -- these lines led to the state: they are the lines of the routine it stands for, which is well-formed
-pub record Known (st : State) (R : Routine) (ls : List Line) : Type 0 where
+pub record Known (st : State) (R : Routine) (ls : List (Option Line)) : Type 0 where
   pub holds : StandsFor st R
   pub is_formed : Formed R
   pub unmarked : (j : ℕ) → st.low ≤ j → j < size R → (wire R j).out ≡ false
   pub said : lines_of R ≡ ls
 
-begun_known : (s d : ℕ) → in_range s d ≡ true → Known (begun s d) (only_shares s d) (L.Head s d ∷ [])
+begun_known : (s d : ℕ) → in_range s d ≡ true → Known (begun s d) (only_shares s d) (Some (L.Head s d) ∷ [])
 begun_known s d h = record {
   holds = shares_holds s d h;
   is_formed = shares_formed s d h;
@@ -47,7 +46,7 @@ begun_known s d h = record {
 }
 
 -- some routine is known of the state
-pub record Stands (st : State) (ls : List Line) : Type 0 where
+pub record Stands (st : State) (ls : List (Option Line)) : Type 0 where
   pub routine : Routine
   pub known : Known st routine ls
 
@@ -56,7 +55,7 @@ unfolding outputs
 no_outs R h = none_tally (size R) (λ u. (wire R u).out) h
 
 -- one line more was said, and the routine has grown by it
-does_known : (st : State) (R : Routine) (ls : List Line) (l : Line) (st' : State) → Known st R ls → Does st l st' → Stands st' (ls ++ l ∷ [])
+does_known : (st : State) (R : Routine) (ls : List (Option Line)) (l : Option Line) (st' : State) → Known st R ls → Does st l st' → Stands st' (ls ++ l ∷ [])
 unfolding made marked
 does_known st R ls l st' g (makes k a b o m n r p q e) =
     let x = fresh k a b in
@@ -75,7 +74,7 @@ does_known st R ls l st' g (makes k a b o m n r p q e) =
         is_formed = formed_more R x f fitting refl room (omega arith) (omega arith);
         unmarked = λ j i v. wire_cases j (size R) (λ d. ap (λ (u : ℕ). (wire (more R x) u).out) d ∙ ap (λ (y : Wire). y.out) (more_new R x))
             (λ d. let u : j < size R = omega (arith, size_more R x) in ap (λ (y : Wire). y.out) (more_old R x j u) ∙ none j u);
-        said = lines_more R x f fitting refl none ∙ ap₂ (λ (v : List Line) (i : Line). v ++ i ∷ []) g.said (sym (q ∙ ap (λ (i : ℕ). line_of_kind i k a b) hn));
+        said = lines_more R x f fitting refl none ∙ ap₂ (λ (v : List (Option Line)) (i : Option Line). v ++ i ∷ []) g.said (sym (q ∙ ap (λ (i : ℕ). line_of_kind i k a b) hn));
       };
     })
 does_known st R ls l st' g (marks w o n low q e) =
@@ -91,33 +90,33 @@ does_known st R ls l st' g (marks w o n low q e) =
         is_formed = formed_marking R w here g.is_formed (omega (arith, outputs_marking R w here before));
         unmarked = λ j i v. ap (λ (y : Wire). y.out) (marking_other R w j (λ d. let z : ⊥ = omega arith in z))
             ∙ g.unmarked j (omega arith) (omega (arith, size_marking R w));
-        said = lines_marking R w here (λ j i v. g.unmarked j (omega arith) v) ∙ ap₂ (λ (v : List Line) (i : Line). v ++ i ∷ []) g.said (sym q);
+        said = lines_marking R w here (λ j i v. g.unmarked j (omega arith) v) ∙ ap₂ (λ (v : List (Option Line)) (i : Option Line). v ++ i ∷ []) g.said (sym q);
       };
     })
 
 -- the read is of a state that these lines led to
-pub record Reached (r : Read) (ls : List Line) : Type 0 where
+pub record Reached (r : Read) (ls : List (Option Line)) : Type 0 where
   pub state : State
   pub routine : Routine
   pub known : Known state routine ls
   pub is : r ≡ read_all state
 
-lines_reached : (k : ℕ) (st : State) (R : Routine) (ls more-ls : List Line)
+lines_reached : (k : ℕ) (st : State) (R : Routine) (ls more-ls : List (Option Line))
     → Known st R ls → (read_lines k st more-ls).outcome ≡ Ok tt → Reached (read_lines k st more-ls) (ls ++ more-ls)
 unfolding read_lines
 lines_reached k st R ls [] g h = record { state = st; routine = R; known = subst (Known st R) (sym (append-nil ls)) g; is = refl }
 lines_reached k st R ls (l ∷ rest) g h =
-    go (take_line st l).outcome refl (λ R' g' h'. lines_reached (k + 1) (take_line st l).state R' (ls ++ l ∷ []) rest g' h') h
+    go (take_line st l) refl (λ next R' g' h'. lines_reached (k + 1) next R' (ls ++ l ∷ []) rest g' h') h
   where
-    go : (o : Outcome) → (take_line st l).outcome ≡ o
-        → ((R' : Routine) → Known (take_line st l).state R' (ls ++ l ∷ []) → (read_lines (k + 1) (take_line st l).state rest).outcome ≡ Ok tt
-        → Reached (read_lines (k + 1) (take_line st l).state rest) ((ls ++ l ∷ []) ++ rest))
-        → (onward o k (read_lines (k + 1) (take_line st l).state rest)).outcome ≡ Ok tt
-        → Reached (onward o k (read_lines (k + 1) (take_line st l).state rest)) (ls ++ l ∷ rest)
+    go : (o : Result State Refusal) → take_line st l ≡ o
+        → ((next : State) (R' : Routine) → Known next R' (ls ++ l ∷ []) → (read_lines (k + 1) next rest).outcome ≡ Ok tt
+        → Reached (read_lines (k + 1) next rest) ((ls ++ l ∷ []) ++ rest))
+        → (onward o k (λ next. read_lines (k + 1) next rest)).outcome ≡ Ok tt
+        → Reached (onward o k (λ next. read_lines (k + 1) next rest)) (ls ++ l ∷ rest)
     go (Err f) e rec h = not_done h
-    go (Ok u) e rec h =
-        let s = does_known st R ls l (take_line st l).state g (does st l e) in
-        subst (Reached (read_lines (k + 1) (take_line st l).state rest)) (append_assoc ls (l ∷ []) rest) (rec s.routine s.known h)
+    go (Ok next) e rec h =
+        let s = does_known st R ls l next g (does st l next e) in
+        subst (Reached (read_lines (k + 1) next rest)) (append_assoc ls (l ∷ []) rest) (rec next s.routine s.known h)
 
 -- ---- the whole text
 
@@ -126,21 +125,21 @@ tested : (b : Bool) (f : Refusal) (k : ℕ) (r : Read) → (cond b r (not_read f
 tested true f k r h = (refl, refl)
 tested false f k r h = not_done h
 
-head_reached : (l : Line) (ls : List Line) → (from_header l ls).outcome ≡ Ok tt → Reached (from_header l ls) (l ∷ ls)
+head_reached : (l : Option Line) (ls : List (Option Line)) → (from_header l ls).outcome ≡ Ok tt → Reached (from_header l ls) (l ∷ ls)
 unfolding from_header
-head_reached L.Bad ls h = not_done h
-head_reached (L.Rand w) ls h = not_done h
-head_reached (L.Pub w) ls h = not_done h
-head_reached (L.Xor w a b) ls h = not_done h
-head_reached (L.And w a b) ls h = not_done h
-head_reached (L.Not w a) ls h = not_done h
-head_reached (L.Out w) ls h = not_done h
-head_reached (L.Head s d) ls h =
+head_reached None ls h = not_done h
+head_reached (Some (L.Rand w)) ls h = not_done h
+head_reached (Some (L.Pub w)) ls h = not_done h
+head_reached (Some (L.Xor w a b)) ls h = not_done h
+head_reached (Some (L.And w a b)) ls h = not_done h
+head_reached (Some (L.Not w a)) ls h = not_done h
+head_reached (Some (L.Out w)) ls h = not_done h
+head_reached (Some (L.Head s d)) ls h =
     let t = tested (in_range s d) No.Range 1 (read_lines 2 (begun s d) ls) h in
-    subst (λ (r : Read). Reached r (L.Head s d ∷ ls)) (sym t.1)
-    (lines_reached 2 (begun s d) (only_shares s d) (L.Head s d ∷ []) ls (begun_known s d t.0) (sym (ap (λ (r : Read). r.outcome) t.1) ∙ h))
+    subst (λ (r : Read). Reached r (Some (L.Head s d) ∷ ls)) (sym t.1)
+    (lines_reached 2 (begun s d) (only_shares s d) (Some (L.Head s d) ∷ []) ls (begun_known s d t.0) (sym (ap (λ (r : Read). r.outcome) t.1) ∙ h))
 
-first_reached : (ls : List Line) → (from_first ls).outcome ≡ Ok tt → Reached (from_first ls) ls
+first_reached : (ls : List (Option Line)) → (from_first ls).outcome ≡ Ok tt → Reached (from_first ls) ls
 unfolding from_first
 first_reached [] h = not_done h
 first_reached (l ∷ ls) h = head_reached l ls h

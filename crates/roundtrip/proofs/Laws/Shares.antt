@@ -9,6 +9,7 @@ use Rattle.std.proofs.lemmas.List.{get_or_at}
 use Rattle.data.specs.declared.Kind.TheVariants as K
 use Rattle.data.specs.declared.Wire.{Wire}
 use Rattle.data.specs.declared.Line.{Line}
+use Rattle.std.specs.Prelude.{Option, Some}
 use Rattle.data.specs.declared.Line.TheVariants as L
 use Rattle.data.proofs.Laws.Tests.{and_i, wire_cases}
 use Rattle.document.specs.Routine.{Routine, size, wire, blank, is_rand, is_pub, rands_before, pubs_before, outputs, in_range, fits, record_fits_lem}
@@ -104,10 +105,10 @@ module _ (s d : ℕ) (h : in_range s d ≡ true) where
   }
 
   -- 1.14, 1.22: no line stands for a share, so the header is the only one
-  pub shares_lines : lines_of (only_shares s d) ≡ L.Head s d ∷ []
+  pub shares_lines : lines_of (only_shares s d) ≡ Some (L.Head s d) ∷ []
   unfolding lines_of wire_lines
   shares_lines =
       let R = only_shares s d in
       let z : size R - s * d ≡ 0 = let y = size_is in omega arith in
-      ap (λ (m : ℕ). L.Head s d ∷ (wire_lines R m (s * d) ++ out_lines R (size R) 0)) z
-      ∙ ap (λ (o : List Line). L.Head s d ∷ o) (outs_none R (size R) 0 (λ j g l. ap (λ (x : Wire). x.out) (shares_wire j (omega arith))))
+      ap (λ (m : ℕ). Some (L.Head s d) ∷ (wire_lines R m (s * d) ++ out_lines R (size R) 0)) z
+      ∙ ap (λ (o : List (Option Line)). Some (L.Head s d) ∷ o) (outs_none R (size R) 0 (λ j g l. ap (λ (x : Wire). x.out) (shares_wire j (omega arith))))

@@ -11,12 +11,11 @@ use Rattle.data.specs.declared.Line.{Line}
 use Rattle.data.specs.declared.Line.TheVariants as L
 use Rattle.data.specs.declared.Refusal.{Refusal}
 use Rattle.data.specs.declared.Refusal.TheVariants as No
-use Rattle.std.specs.Prelude.{Ok}
+use Rattle.std.specs.Prelude.{Option, None, Some, Result, Ok, Err}
 use Rattle.data.specs.declared.State.{State}
-use Rattle.data.specs.declared.Taken.{Taken}
 use Rattle.data.specs.Basics.{one, each}
 use Rattle.document.specs.Routine.{Routine, size, wire, blank, is_rand, is_pub, rands_before, pubs_before, outputs, operands_of}
-use Rattle.document.specs.Reading.{taken, not_taken, made, with_mark, marked, is_next, earlier, has_room, make, mark_out, take_line}
+use Rattle.document.specs.Reading.{made, with_mark, marked, is_next, earlier, has_room, make, mark_out, take_line}
 use Rattle.document.specs.Writing.{line_of_kind}
 use Rattle.data.proofs.Laws.Tests.{both}
 use Rattle.roundtrip.proofs.Laws.Tests.{not_done}
@@ -89,51 +88,52 @@ holds_marked st R w h l u = record {
 
 -- ---- what a line that is taken does
 
-pub data Does (st : State) (l : Line) (st' : State) : Type 0 where
+pub data Does (st : State) (l : Option Line) (st' : State) : Type 0 where
   makes : (k : Kind) (a b : ℕ) → st.outs ≡ 0 → Made st.n k a b → st.n < 128 → st.rands + one (is_rand k) ≤ 64 → st.pubs + one (is_pub k) ≤ 16
       → l ≡ line_of_kind st.n k a b → st' ≡ made st k a b → Does st l st'
-  marks : (w : ℕ) → st.outs < 64 → w < st.n → st.low ≤ w → l ≡ L.Out w → st' ≡ marked st w → Does st l st'
+  marks : (w : ℕ) → st.outs < 64 → w < st.n → st.low ≤ w → l ≡ Some (L.Out w) → st' ≡ marked st w → Does st l st'
 
 -- the test passed, if the line was taken
-tested : (b : Bool) (st : State) (f : Refusal) (l : Line) (y : Taken) → (b ≡ true → y.outcome ≡ Ok tt → Does st l y.state)
-    → (cond b y (not_taken f st)).outcome ≡ Ok tt → Does st l (cond b y (not_taken f st)).state
-tested true st f l y g h = g refl h
-tested false st f l y g h = not_done h
+tested : (b : Bool) (st : State) (f : Refusal) (l : Option Line) (st' : State) (y : Result State Refusal) → (b ≡ true → y ≡ Ok st' → Does st l st')
+    → cond b y (Err f) ≡ Ok st' → Does st l st'
+tested true st f l st' y g h = g refl h
+tested false st f l st' y g h = not_done h
 
-make_does : (st : State) (w : ℕ) (k : Kind) (a b : ℕ) (l : Line) → (earlier w k a b ≡ true → Made w k a b) → l ≡ line_of_kind w k a b
-    → (make st w k a b).outcome ≡ Ok tt → Does st l (make st w k a b).state
+make_does : (st : State) (w : ℕ) (k : Kind) (a b : ℕ) (l : Option Line) (st' : State) → (earlier w k a b ≡ true → Made w k a b) → l ≡ line_of_kind w k a b
+    → make st w k a b ≡ Ok st' → Does st l st'
 unfolding make is_next has_room
-make_does st w k a b l m e h =
-    tested (eqb w st.n && eqb st.outs 0) st No.Next l _
-    (λ p. tested (earlier w k a b) st No.Operand l _
-    (λ q. tested (ltb st.n 128 && leb (st.rands + one (is_rand k)) 64 && leb (st.pubs + one (is_pub k)) 16) st No.Ceiling l (taken (made st k a b))
+make_does st w k a b l st' m e h =
+    tested (eqb w st.n && eqb st.outs 0) st No.Next l st' _
+    (λ p. tested (earlier w k a b) st No.Operand l st' _
+    (λ q. tested (ltb st.n 128 && leb (st.rands + one (is_rand k)) 64 && leb (st.pubs + one (is_pub k)) 16) st No.Ceiling l st' (Ok (made st k a b))
     (λ r g.
     let t = both (eqb w st.n) (eqb st.outs 0) p in
     let n = eqb-true w st.n t.0 in
     let u = both (ltb st.n 128 && leb (st.rands + one (is_rand k)) 64) (leb (st.pubs + one (is_pub k)) 16) r in
     let v = both (ltb st.n 128) (leb (st.rands + one (is_rand k)) 64) u.0 in
     makes k a b (eqb-true st.outs 0 t.1) (subst (λ (i : ℕ). Made i k a b) n (m q)) (ltb-true st.n 128 v.0)
-    (leb-true (st.rands + one (is_rand k)) 64 v.1) (leb-true (st.pubs + one (is_pub k)) 16 u.1) (e ∙ ap (λ (i : ℕ). line_of_kind i k a b) n) refl))) h
+    (leb-true (st.rands + one (is_rand k)) 64 v.1) (leb-true (st.pubs + one (is_pub k)) 16 u.1) (e ∙ ap (λ (i : ℕ). line_of_kind i k a b) n) (cc)))) h
 
-mark_does : (st : State) (w : ℕ) → (mark_out st w).outcome ≡ Ok tt → Does st (L.Out w) (mark_out st w).state
+mark_does : (st : State) (w : ℕ) (st' : State) → mark_out st w ≡ Ok st' → Does st (Some (L.Out w)) st'
 unfolding mark_out
-mark_does st w h =
-    tested (ltb st.outs 64) st No.Ceiling (L.Out w) _
-    (λ p. tested (ltb w st.n && leb st.low w) st No.Output (L.Out w) (taken (marked st w))
+mark_does st w st' h =
+    tested (ltb st.outs 64) st No.Ceiling (Some (L.Out w)) st' _
+    (λ p. tested (ltb w st.n && leb st.low w) st No.Output (Some (L.Out w)) st' (Ok (marked st w))
     (λ q g. let t = both (ltb w st.n) (leb st.low w) q in
-    marks w (ltb-true st.outs 64 p) (ltb-true w st.n t.0) (leb-true st.low w t.1) refl refl)) h
+    marks w (ltb-true st.outs 64 p) (ltb-true w st.n t.0) (leb-true st.low w t.1) refl (cc))) h
 
 -- both operands are earlier wires
 two_earlier : (w a b : ℕ) → (ltb a w && (ltb b w && true)) ≡ true → (a < w) × (b < w)
 two_earlier w a b h = let t = both (ltb a w) (ltb b w && true) h in (ltb-true a w t.0, ltb-true b w (both (ltb b w) true t.1).0)
 
-pub does : (st : State) (l : Line) → (take_line st l).outcome ≡ Ok tt → Does st l (take_line st l).state
+pub does : (st : State) (l : Option Line) (st' : State) → take_line st l ≡ Ok st' → Does st l st'
 unfolding take_line earlier each operands_of line_of_kind
-does st L.Bad h = not_done h
-does st (L.Head s d) h = not_done h
-does st (L.Rand w) h = make_does st w K.Rand 0 0 (L.Rand w) (λ q. (refl, refl)) refl h
-does st (L.Pub w) h = make_does st w K.Pub 0 0 (L.Pub w) (λ q. (refl, refl)) refl h
-does st (L.Xor w a b) h = make_does st w K.Xor a b (L.Xor w a b) (two_earlier w a b) refl h
-does st (L.And w a b) h = make_does st w K.And a b (L.And w a b) (two_earlier w a b) refl h
-does st (L.Not w a) h = make_does st w K.Not a 0 (L.Not w a) (λ q. (ltb-true a w (both (ltb a w) true q).0, refl)) refl h
-does st (L.Out w) h = mark_does st w h
+does st None st' h = not_done h
+does st (Some (L.Head s d)) st' h = not_done h
+does st (Some (L.Rand w)) st' h = make_does st w K.Rand 0 0 (Some (L.Rand w)) st' (λ q. (refl, refl)) refl h
+does st (Some (L.Pub w)) st' h = make_does st w K.Pub 0 0 (Some (L.Pub w)) st' (λ q. (refl, refl)) refl h
+does st (Some (L.Xor w a b)) st' h = make_does st w K.Xor a b (Some (L.Xor w a b)) st' (two_earlier w a b) refl h
+does st (Some (L.And w a b)) st' h = make_does st w K.And a b (Some (L.And w a b)) st' (two_earlier w a b) refl h
+does st (Some (L.Not w a)) st' h =
+    make_does st w K.Not a 0 (Some (L.Not w a)) st' (λ q. (ltb-true a w (both (ltb a w) true q).0, refl)) refl h
+does st (Some (L.Out w)) st' h = mark_does st w st' h

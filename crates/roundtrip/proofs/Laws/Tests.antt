@@ -7,7 +7,7 @@ use Rattle.data.specs.declared.Refusal.{Refusal}
 use Rattle.std.specs.Prelude.{Ok, Err}
 
 -- what is refused is not done
-pub not_done : {X : Type 0} {f : Refusal} → Err f ≡ Ok tt → X
+pub not_done : {A X : Type 0} {x : A} {f : Refusal} → Err f ≡ Ok x → X
 not_done e = let z : ◌≡◌ {A = ℕ} 0 1 = cc in let w : ⊥ = omega arith in absurd w
 
 pub tally_none : (m : ℕ) (f : ℕ → Bool) → ((u : ℕ) → u < m → f u ≡ false) → tally m f ≡ 0

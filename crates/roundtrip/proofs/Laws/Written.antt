@@ -14,12 +14,13 @@ use Rattle.data.specs.declared.Wire.{Wire}
 use Rattle.data.specs.declared.Line.{Line}
 use Rattle.data.specs.declared.Line.TheVariants as L
 use Rattle.data.specs.declared.State.{State}
-use Rattle.data.specs.declared.Taken.{Taken}
+use Rattle.data.specs.declared.Refusal.{Refusal}
+use Rattle.std.specs.Prelude.{Option, Some, Result, Ok}
 use Rattle.data.specs.declared.Read.{Read}
 use Rattle.data.proofs.Laws.Tests.{and_i, wire_cases, cond_true, tally_ext, tally_mono, tally_le}
 use Rattle.data.specs.Basics.{one, tally}
 use Rattle.document.specs.Routine.{Routine, size, wire, blank, is_rand, is_pub, rands_before, pubs_before, outputs}
-use Rattle.document.specs.Reading.{taken, made, with_mark, marked, is_next, has_room, make, mark_out, take_line}
+use Rattle.document.specs.Reading.{made, with_mark, marked, is_next, has_room, make, mark_out, take_line}
 use Rattle.document.specs.Reading.{read_all, onward, read_lines, begun, from_header, from_first, reading}
 use Rattle.document.specs.Writing.{line_of_kind, wire_line, wire_lines, out_lines, lines_of, text_of}
 use Rattle.roundtrip.specs.Texts.{read_of}
@@ -37,7 +38,7 @@ use Rattle.roundtrip.proofs.Laws.Read.{holds_read}
 
 pub make_taken : (st : State) (w : ℕ) (k : Kind) (a b : ℕ) → w ≡ st.n → st.outs ≡ 0 → Made w k a b → w < 128
     → st.rands + one (is_rand k) ≤ 64 → st.pubs + one (is_pub k) ≤ 16
-    → take_line st (line_of_kind w k a b) ≡ taken (made st k a b)
+    → take_line st (line_of_kind w k a b) ≡ Ok (made st k a b)
 unfolding make is_next has_room
 make_taken st w k a b e o m h r p =
     made_line st w k a b m
@@ -47,14 +48,14 @@ make_taken st w k a b e o m h r p =
     (and_i _ _ (and_i _ _ (lt-ltb st.n 128 (omega arith)) (le-leb (st.rands + one (is_rand k)) 64 r))
     (le-leb (st.pubs + one (is_pub k)) 16 p))
 
-mark_taken : (st : State) (w : ℕ) → st.outs < 64 → w < st.n → st.low ≤ w → take_line st (L.Out w) ≡ taken (marked st w)
+mark_taken : (st : State) (w : ℕ) → st.outs < 64 → w < st.n → st.low ≤ w → take_line st (Some (L.Out w)) ≡ Ok (marked st w)
 unfolding take_line mark_out
 mark_taken st w o h l =
     cond_true _ _ (lt-ltb st.outs 64 o) ∙ cond_true _ _ (and_i _ _ (lt-ltb w st.n h) (le-leb st.low w l))
 
-next_line : (k : ℕ) (st : State) (l : Line) (ls : List Line) (st' : State) → take_line st l ≡ taken st' → read_lines k st (l ∷ ls) ≡ read_lines (k + 1) st' ls
+next_line : (k : ℕ) (st : State) (l : Option Line) (ls : List (Option Line)) (st' : State) → take_line st l ≡ Ok st' → read_lines k st (l ∷ ls) ≡ read_lines (k + 1) st' ls
 unfolding read_lines
-next_line k st l ls st' e = ap (λ (y : Taken). onward y.outcome k (read_lines (k + 1) y.state ls)) e
+next_line k st l ls st' e = ap (λ (y : Result State Refusal). onward y k (λ next. read_lines (k + 1) next ls)) e
 
 -- ---- the wires, one after the other
 
@@ -70,7 +71,7 @@ pub record Begun (R : Routine) (j : ℕ) (Q : Routine) : Type 0 where
   pub same : (u : ℕ) → u < j → wire Q u ≡ without_mark (wire R u)
 
 -- the read goes on from where all wires of R are made and none is marked, with these lines still to come
-pub record WiresMade (R : Routine) (r : Read) (rest : List Line) : Type 0 where
+pub record WiresMade (R : Routine) (r : Read) (rest : List (Option Line)) : Type 0 where
   pub line : ℕ
   pub state : State
   pub routine : Routine
@@ -137,7 +138,7 @@ module _ (R : Routine) (f : Formed R) where
             (λ n. let v : u < j = omega arith in more_old Q x u (let z = b.count in omega arith) ∙ b.same u v);
       }
 
-  wires_taken : (m j k : ℕ) (st : State) (Q : Routine) (rest : List Line) → j + m ≡ size R → R.S * R.D ≤ j → Begun R j Q → StandsFor st Q → st.low ≡ 0
+  wires_taken : (m j k : ℕ) (st : State) (Q : Routine) (rest : List (Option Line)) → j + m ≡ size R → R.S * R.D ≤ j → Begun R j Q → StandsFor st Q → st.low ≡ 0
       → WiresMade R (read_lines k st (wire_lines R m j ++ rest)) rest
   unfolding wire_lines made
   wires_taken zero j k st Q rest e s b h l =
@@ -208,7 +209,7 @@ module _ (R : Routine) (f : Formed R) where
     where
       go : (b : Bool) → (wire R w).out ≡ b
           → ((j : ℕ) (s : State) (P : Routine) → Partly R (suc w) P → StandsFor s P → s.low ≤ suc w → Whole R (read_lines j s (out_lines R m (suc w))))
-          → Whole R (read_lines k st (cond b (L.Out w ∷ out_lines R m (suc w)) (out_lines R m (suc w))))
+          → Whole R (read_lines k st (cond b (Some (L.Out w) ∷ out_lines R m (suc w)) (out_lines R m (suc w))))
       go false d rec = rec k st Q (partly_skip w Q (omega arith) d p) h (omega arith)
       go true d rec =
           let c = p.count in
@@ -221,7 +222,7 @@ module _ (R : Routine) (f : Formed R) where
           let few = partly_outs (suc w) (marking Q w) q in
           let most = f.few_outs in
           let t = mark_taken st w (omega arith) (omega arith) l in
-          subst (Whole R) (sym (next_line k st (L.Out w) (out_lines R m (suc w)) (marked st w) t))
+          subst (Whole R) (sym (next_line k st (Some (L.Out w)) (out_lines R m (suc w)) (marked st w) t))
           (rec (k + 1) (marked st w) (marking Q w) q (holds_marked st Q w h (omega arith) before) (omega arith))
 
   -- ---- from the first line on
@@ -267,8 +268,8 @@ module _ (R : Routine) (f : Formed R) where
       let rest = wire_lines R (size R - R.S * R.D) (R.S * R.D) ++ out_lines R (size R) 0 in
       let o = lines_taken in
       let short = text_short R f.wide in
-      cond_true _ _ (and_i _ _ (lt-ltb 0 (length t) (text_some (L.Head R.S R.D) rest)) (le-leb (length t) 4096 (omega arith)))
-      ∙ cond_true _ _ (and_i _ _ g.typed (eq-eqb (get_or t (length t - 1) 0) lf (text_last (L.Head R.S R.D) rest)))
+      cond_true _ _ (and_i _ _ (lt-ltb 0 (length t) (text_some (Some (L.Head R.S R.D)) rest)) (le-leb (length t) 4096 (omega arith)))
+      ∙ cond_true _ _ (and_i _ _ g.typed (eq-eqb (get_or t (length t - 1) 0) lf (text_last (Some (L.Head R.S R.D)) rest)))
       ∙ ap from_first g.back
       ∙ cond_true _ _ f.ranged
       ∙ o.is ∙ holds_read o.state R o.holds

@@ -10,6 +10,7 @@ use Rattle.document.specs.Lines.{lf, spelled, line_text, text_of_lines}
 use Rattle.document.specs.Routine.{routine_of}
 use Rattle.document.specs.Writing.{wire_lines, out_lines, lines_of, text_of}
 use Rattle.data.specs.declared.Line.{Line}
+use Rattle.std.specs.Prelude.{Option}
 use Rattle.data.specs.declared.Shape.{Shape}
 use Rattle.data.specs.declared.Wire.{Wire}
 use Rattle.data.specs.declared.Word.TheVariants as W
@@ -23,7 +24,7 @@ use Rattle.pieces.specs.declared.Part.TheVariants.{Wires, Outputs}
 use Rattle.writer.specs.Parts.{head_line, section, text_parts}
 use Rattle.writer.proofs.Laws.Sections.{section_none, section_front}
 
-text_append : (xs ys : List Line) → text_of_lines (xs ++ ys) ≡ text_of_lines xs ++ text_of_lines ys
+text_append : (xs ys : List (Option Line)) → text_of_lines (xs ++ ys) ≡ text_of_lines xs ++ text_of_lines ys
 unfolding text_of_lines
 text_append [] ys = refl
 text_append (x ∷ xs) ys = ap (λ (t : List ℕ). line_text x ++ lf ∷ t) (text_append xs ys) ∙ sym (append_assoc (line_text x) (lf ∷ text_of_lines xs) (text_of_lines ys))
