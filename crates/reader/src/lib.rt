@@ -10,8 +10,8 @@ use data::{LF, Read, Refusal};
 const LONGEST: usize = 4096;
 
 // A whole text: any bytes, any number of them.
-// Linear in its length: a byte is looked at once for 2, once for an LF, once for a tab, and in its field once as a digit
-// or seven times as a part of a word. Parts of the text are lent on and never copied; each line hands on one state.
+// Linear in its length: a byte is looked at once for 2, once for an LF, once for a tab, and in its field as a digit or as a part
+// of a word. Parts of the text are lent on and never copied; each line hands on one state.
 #[tactic(auto, using(crate::proofs::TextLaws::first_line), unfolding(document::specs::Reading::reading))]
 pub fn read(text: &[u8]) -> Read
     ensures { result ≡ reading text.now }
