@@ -1,51 +1,50 @@
 // How many of the first records are randoms, publics and outputs, and whether that is under the ceilings.
 #![tactic(auto)]
 
-ghost use Rattle.std.specs.Prelude.{◌≡◌, ◌≤◌};
-ghost use Rattle.data.specs.Basics.{one};
-ghost use Rattle.document.specs.Routine.{is_rand, is_pub};
+ghost use Rattle.std.specs.Prelude.{◌≡◌, ◌≤◌, length};
 ghost use Rattle.counts.specs.Counting.{counts_of, with_record, Room, ceilings_met};
 
 use data::{Kind, Wire};
 
 // How many of the first records are randoms, publics and outputs.
-#[derive(Clone, Copy)]
+#[derive(Clone, Copy, PartialEq, Eq)]
 pub struct Counts {
     pub rands: usize,
     pub pubs: usize,
     pub outs: usize,
 }
 
-fn is_rand(k: Kind) -> bool
-    ensures { result ≡ is_rand k }
-{
-    match k {
-        Kind::Share => false,
-        Kind::Rand => true,
-        Kind::Pub => false,
-        Kind::Xor => false,
-        Kind::And => false,
-        Kind::Not => false,
+impl Counts {
+    // The counts of no record.
+    pub fn none() -> Counts
+        ensures { result ≡ record { rands = 0; pubs = 0; outs = 0 } }
+    {
+        Counts {
+            rands: 0,
+            pubs: 0,
+            outs: 0,
+        }
     }
-}
 
-fn is_pub(k: Kind) -> bool
-    ensures { result ≡ is_pub k }
-{
-    match k {
-        Kind::Share => false,
-        Kind::Rand => false,
-        Kind::Pub => true,
-        Kind::Xor => false,
-        Kind::And => false,
-        Kind::Not => false,
+    // The counts with one record more.
+    pub fn with(self, x: Wire) -> Counts
+        requires { Room self }
+        ensures { result ≡ with_record self x }
+    {
+        Counts {
+            rands: usize::from(x.kind == Kind::Rand) + self.rands,
+            pubs: usize::from(x.kind == Kind::Pub) + self.pubs,
+            outs: usize::from(x.out) + self.outs,
+        }
     }
-}
 
-fn one_if(b: bool) -> usize
-    ensures { result ≡ one b }
-{
-    if b { 1 } else { 0 }
+    // 1.23, 1.31: no ceiling is passed.
+    #[tactic(auto, unfolding(crate::specs::Counting::ceilings_met))]
+    pub fn ceilings_met(self) -> bool
+        ensures { result ≡ ceilings_met self }
+    {
+        self.rands <= 64 && self.pubs <= 16 && self.outs <= 64
+    }
 }
 
 // The counts with one record more.
@@ -53,36 +52,17 @@ pub fn count_record(c: Counts, x: Wire) -> Counts
     requires { Room c }
     ensures { result ≡ with_record c x }
 {
-    let k = x.kind;
-    Counts {
-        rands: one_if(is_rand(k)) + c.rands,
-        pubs: one_if(is_pub(k)) + c.pubs,
-        outs: one_if(x.out) + c.outs,
-    }
+    c.with(x)
 }
 
-// The counts over the first n records.
-pub fn count_records(n: usize, ws: [Wire; 128]) -> Counts
-    requires { n ≤ 128 }
-    ensures { result ≡ counts_of n ws }
+// The counts over the records.
+pub fn count_records(ws: &[Wire]) -> Counts
+    requires { length ws.now ≤ 128 }
+    ensures { result ≡ counts_of (length ws.now) ws.now }
 {
-    let mut c = Counts {
-        rands: 0,
-        pubs: 0,
-        outs: 0,
-    };
-    let mut i = 0;
-    while i < n {
-        let x = ws[i];
-        let next = count_record(c, x);
-        c = next;
-        i += 1;
+    let mut c = Counts::none();
+    for x in ws {
+        c = c.with(*x);
     }
     c
-}
-
-pub fn ceilings_met(c: Counts) -> bool
-    ensures { result ≡ ceilings_met c }
-{
-    (c.rands <= 64) & (c.pubs <= 16) & (c.outs <= 64)
 }

@@ -1,6 +1,6 @@
 -- Laws of the counts: record by record, and over the records as they lie in the list.
-use Rattle.std.specs.Prelude.{◌≡◌, refl, List, ℕ, ◌+◌, ◌≤◌, ◌<◌}
-use Rattle.std.proofs.Common.{ap, add-one, arith, get_or-take}
+use Rattle.std.specs.Prelude.{◌≡◌, refl, List, ℕ, ◌+◌, ◌≤◌, ◌<◌, length, take}
+use Rattle.std.proofs.Common.{ap, add-one, arith, get_or-take, length-take-le}
 use Rattle.data.specs.Basics.{tally}
 use Rattle.document.specs.Routine.{wire, blank, is_rand, is_pub, rands_before, pubs_before, routine_of}
 use Rattle.data.proofs.Laws.Tests.{tally_ext, tally_max}
@@ -42,3 +42,16 @@ pubs_is σ ws i h = tally_ext i _ _ (λ u l. ap (λ (x : Wire). is_pub x.kind) (
 pub outs_is : (σ : Shape) (ws : List Wire) → tally σ.n (λ u. (wire (routine_of σ ws) u).out) ≡ (counts_of σ.n ws).outs
 unfolding counts_of
 outs_is σ ws = tally_ext σ.n _ _ (λ u l. ap (λ (x : Wire). x.out) (wire_is σ ws u l))
+
+-- the counts look at the first n records alone
+pub counts_first : (n : ℕ) (ws : List Wire) → n ≤ length ws → counts_of (length (take n ws)) (take n ws) ≡ counts_of n ws
+unfolding counts_of
+counts_first n ws h =
+    let z = length-take-le n ws h in
+    let first : (u : ℕ) → u < n → record_at (take n ws) u ≡ record_at ws u = λ u l. get_or-take n ws u blank l in
+    rw (
+      z,
+      tally_ext n (λ u. is_rand (record_at (take n ws) u).kind) (λ u. is_rand (record_at ws u).kind) (λ u l. ap (λ (x : Wire). is_rand x.kind) (first u l)),
+      tally_ext n (λ u. is_pub (record_at (take n ws) u).kind) (λ u. is_pub (record_at ws u).kind) (λ u l. ap (λ (x : Wire). is_pub x.kind) (first u l)),
+      tally_ext n (λ u. (record_at (take n ws) u).out) (λ u. (record_at ws u).out) (λ u l. ap (λ (x : Wire). x.out) (first u l)),
+    )

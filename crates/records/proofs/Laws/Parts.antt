@@ -1,10 +1,10 @@
 -- Laws of the test of refusal 11 over the records as they lie in the list: the whole test, and its parts.
-use Rattle.std.specs.Prelude.{◌≡◌, refl, Bool, true, false, ◌&&◌, List, [], ℕ, zero, suc, ◌+◌, ◌*◌, ◌≤◌, ◌<◌, leb, length}
-use Rattle.std.proofs.Common.{ap, ap₂, ◌∙◌, mul-le-mul, add-one, arith, length-take-le}
+use Rattle.std.specs.Prelude.{◌≡◌, refl, Bool, true, false, ◌&&◌, List, [], ℕ, zero, suc, ◌+◌, ◌*◌, ◌≤◌, ◌<◌, leb, length, take}
+use Rattle.std.proofs.Common.{ap, ap₂, ◌∙◌, mul-le-mul, add-one, arith, length-take-le, get_or-take}
 use borrow.Author.Tests.{leb-true, le-leb, lt-leb}
 use Rattle.data.specs.Basics.{all}
-use Rattle.document.specs.Routine.{outputs, in_range, fits, record_fits_lem, ceilings, well_formed, routine_of, records_fit}
-use Rattle.data.proofs.Laws.Tests.{and_l, and_r}
+use Rattle.document.specs.Routine.{blank, outputs, in_range, fits, record_fits_lem, ceilings, well_formed, routine_of, records_fit}
+use Rattle.data.proofs.Laws.Tests.{clash, out_of, and_l, and_r, all_at}
 use Rattle.data.specs.declared.Kind.{Kind}
 use Rattle.data.specs.declared.Kind.TheVariants.{Share, Rand, Pub, Xor, And, Not}
 use Rattle.data.specs.declared.Wire.{Wire}
@@ -41,6 +41,9 @@ pub all_none : (f : ℕ → Bool) → all 0 f ≡ true
 unfolding all
 all_none f = refl
 
+pub all_fails : (m : ℕ) (f : ℕ → Bool) (w : ℕ) → w < m → f w ≡ false → all m f ≡ false
+all_fails m f w h e = out_of (λ t. clash (all_at m f t w h) e)
+
 -- ---- the whole test
 
 pub in_range_lem : (s d : ℕ) → in_range s d ≡ true → Ranged s d
@@ -71,6 +74,17 @@ fit_is σ ws long =
 pub too_long : (σ : Shape) (ws : List Wire) → length ws < σ.n → records_fit σ ws ≡ false
 unfolding records_fit
 too_long σ ws h = simp (lt-leb σ.n (length ws) h)
+
+-- what is asked of each of the first n records
+pub all_first : (n s d : ℕ) (ws : List Wire) → n ≤ length ws
+    → all (length (take n ws)) (λ w. fits_at s d w (record_at (take n ws) w)) ≡ all n (λ w. fits_at s d w (record_at ws w))
+all_first n s d ws h =
+    let z = length-take-le n ws h in
+    rw (
+      z,
+      all_ext n (λ w. fits_at s d w (record_at (take n ws) w)) (λ w. fits_at s d w (record_at ws w))
+          (λ u l. ap (fits_at s d u) (get_or-take n ws u blank l)),
+    )
 
 -- 7.11: the test, part by part in the order of the code
 module _ (σ : Shape) (ws : List Wire) (long : σ.n ≤ length ws) (few : σ.n ≤ 128) where

@@ -1,23 +1,19 @@
--- `records::all_fit` meets its contract. The loop's invariant: `good` says whether all records passed fit.
-use mathlib.Core.Bool.{Bool, ◌&&◌}
-use mathlib.Core.Path.{sym, ap, ◌∙◌}
-use Prim.Native.Nat.{ℕ}
-use native.Mathlib.Omega.{arith}
-use borrow.Author.Rules.{rules}
-use Rattle.data.specs.Basics.{all}
+-- `records::all_fit` meets its contract: a record that fits is one more, and one that does not is enough.
+use Rattle.std.proofs.Common.{Bool, ℕ, length, arith, sym, ◌∙◌}
 use Rattle.counts.specs.Counting.{record_at}
-use Rattle.records.proofs.Laws.Parts.{all_none, all_more}
+use Rattle.records.proofs.Laws.Parts.{all_none, all_more, all_fails}
 use Rattle.records.specs.Records.{fits_at}
 use Rattle.records.proofs.all_fit.Goals as goal
 
 pub loop-w-init : goal.loop-w-init
-loop-w-init c = (search rules, sym (all_none _))
+loop-w-init c = all_none _
+
+pub returns-then-not-record_fits : goal.returns-then-not-record_fits
+returns-then-not-record_fits c =
+    let f : ℕ → Bool = λ u. fits_at c.args.s c.args.d u (record_at c.args.ws.now u) in
+    sym (all_fails (length c.args.ws.now) f c.loop-w.w (omega arith) (sym c.record_fits.ensures ∙ c.if-not-record_fits.true))
 
 pub loop-w-preserved : goal.loop-w-preserved
-loop-w-preserved c = let s = c in
-    let f : ℕ → Bool = λ u. fits_at s.args.listing.shape.s s.args.listing.shape.d u (record_at s.args.listing.wires u) in (
-      omega arith,
-      ap (λ (b : Bool). b && c.record_fits-fits.result) c.loop-w.invariant.1
-          ∙ ap (λ (b : Bool). all c.loop-w.w f && b) c.record_fits-fits.ensures
-          ∙ sym (all_more c.loop-w.w f),
-    )
+loop-w-preserved c =
+    let f : ℕ → Bool = λ u. fits_at c.args.s c.args.d u (record_at c.args.ws.now u) in
+    all_more c.loop-w.w f ∙ rw (c.loop-w.invariant, sym c.record_fits.ensures ∙ c.if-not-record_fits.false)

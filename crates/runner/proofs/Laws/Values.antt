@@ -1,7 +1,7 @@
 -- The values, wire by wire.
 use Rattle.std.specs.Prelude.{◌≡◌, List, [], ◌∷◌, ◌++◌, length, get_or, take, drop, set}
 use Rattle.std.proofs.Math.Path.{refl}
-use Rattle.std.proofs.Common.{sym, ap, ◌∙◌, append_assoc, add-one, arith, drop-cons, take_at, length-take-le}
+use Rattle.std.proofs.Common.{sym, ap, ◌∙◌, append_assoc, add-one, arith, drop-cons, le_refl, take_at, take-take, length-take-le}
 use Prim.Native.Nat.{ℕ, zero, suc, ◌+◌, ◌≤◌, ◌<◌}
 use Rattle.std.proofs.Math.ListN.{length-append}
 use Rattle.std.proofs.lemmas.List.{set_at}
@@ -67,12 +67,18 @@ module _ (n : ℕ) (ws : List Wire) (shares randoms publics : ℕ) where
       ∙ set_at (vs k) (get_or b₀ k 0) (drop (suc k) b₀) (next k) k (values_length k)
       ∙ sym (rw (add-one, values_suc, append_assoc))
 
-  -- the same of one turn of the code, with the counts and the bits that it has
-  pub values_turn : (k : ℕ) (b b₀ b₁ : List ℕ) (c : Counts) (share random public : ℕ) → k < n → k < length b₀ → b ≡ vs k ++ drop k b₀ → c ≡ counts_of k ws
-      → share ≡ get_or (bits 64 shares) k 0 → random ≡ get_or (bits 64 randoms) c.rands 0 → public ≡ get_or (bits 64 publics) c.pubs 0
-      → b₁ ≡ set b k (value_from b k (record_at ws k) share random public) → b₁ ≡ vs (k + 1) ++ drop (k + 1) b₀
-  values_turn k b b₀ b₁ c share random public h l e counted p q r t =
-      t ∙ rw (p, q, r, counted) (values_more k b b₀ h l e)
+  -- the same of one turn of the code, with the counts that it has
+  pub values_turn : (k : ℕ) (b b₀ b₁ : List ℕ) (c : Counts) → k < n → k < length b₀ → b ≡ vs k ++ drop k b₀ → c ≡ counts_of k ws
+      → b₁ ≡ set b k (value_from b k (record_at ws k) (get_or (bits 64 shares) k 0) (get_or (bits 64 randoms) c.rands 0) (get_or (bits 64 publics) c.pubs 0))
+      → b₁ ≡ vs (k + 1) ++ drop (k + 1) b₀
+  values_turn k b b₀ b₁ c h l e counted t = t ∙ rw counted (values_more k b b₀ h l e)
+
+-- the values of the first n records are those of a list of just these
+pub values_first : (n : ℕ) (ws : List Wire) (shares randoms publics : ℕ) (b : List ℕ) → n ≤ length ws
+    → values (length (take n ws)) (take n ws) shares randoms publics (length (take n ws)) ++ drop (length (take n ws)) b
+    ≡ values n ws shares randoms publics n ++ drop n b
+unfolding values
+values_first n ws shares randoms publics b h = rw (length-take-le n ws h, take-take n n ws (le_refl n))
 
 -- all values
 pub values_all : (σ : Shape) (ws : List Wire) (shares randoms publics : ℕ) → σ.n ≤ length ws →
