@@ -1,3 +1,2 @@
--- Laws of lists, as the proofs of this crate share them, and the laws of the first records of a lent list.
-pub mod Lists
+-- The laws of the first records of a lent list.
 pub mod Laws

@@ -1,28 +1,11 @@
 // Records copied between a lent list and an array by value.
-// Every function that has the list is straight-line or one loop, and tests nothing: functions that have an array or numbers decide.
+// Every function that has the list is straight-line, and tests nothing: functions that have an array or numbers decide.
 #![tactic(auto)]
 
-ghost use Rattle.std.specs.Prelude.{◌≡◌, ◌++◌, ◌≤◌, ◌<◌, length, get_or, set, take, drop};
-ghost use Rattle.document.specs.Routine.{blank};
+ghost use Rattle.std.specs.Prelude.{◌≡◌, ◌++◌, ◌≤◌, length, take, drop};
 ghost use Rattle.copies.specs.First.{fetched, clipped, listing_of};
 
 use data::{Listing, Shape, Wire};
-
-fn record_at(ws: [Wire; 128], i: usize) -> Wire
-    requires { i < 128 }
-    ensures { result ≡ get_or ws i blank }
-{
-    ws[i]
-}
-
-fn with_record(ws: [Wire; 128], i: usize, x: Wire) -> [Wire; 128]
-    requires { i < 128 }
-    ensures { result ≡ set ws i x }
-{
-    let mut vs = ws;
-    vs[i] = x;
-    vs
-}
 
 // The first k records of the list, and blanks behind them.
 fn fetch(list: &[Wire], k: usize) -> [Wire; 128]
@@ -30,12 +13,7 @@ fn fetch(list: &[Wire], k: usize) -> [Wire; 128]
     ensures { result ≡ fetched k list.now }
 {
     let mut ws = listing::blank_wires();
-    let mut i = 0;
-    while i < k {
-        let next = with_record(ws, i, list[i]);
-        ws = next;
-        i += 1;
-    }
+    ws[..k].copy_from_slice(&list[..k]);
     ws
 }
 
@@ -44,37 +22,25 @@ pub fn store(ws: [Wire; 128], n: usize, list: &mut [Wire])
     requires { (n ≤ 128) × (n ≤ length list.old) }
     ensures { list.new ≡ take n ws ++ drop n list.old }
 {
-    let mut i = 0;
-    while i < n {
-        list[i] = record_at(ws, i);
-        i += 1;
-    }
+    list[..n].copy_from_slice(&ws[..n]);
 }
 
 // How many records stand for n in an array: none where the list is shorter than n or n is above 128.
-fn clip(len: usize, shape: Shape) -> usize
-    ensures { (result ≡ clipped len shape.n) × (result ≤ 128) × (result ≤ len) }
+#[tactic(auto, unfolding(crate::specs::First::clipped))]
+fn clip(len: usize, n: usize) -> usize
+    ensures { (result ≡ clipped len n) × (result ≤ 128) × (result ≤ len) }
 {
-    if len < shape.n {
-        return 0;
-    }
-    if 128 < shape.n {
-        return 0;
-    }
-    shape.n
-}
-
-fn listed(shape: Shape, wires: [Wire; 128]) -> Listing
-    ensures { result ≡ record { shape = shape; wires = wires } }
-{
-    Listing { shape, wires }
+    if n <= len && n <= 128 { n } else { 0 }
 }
 
 // The first n records by value, or only blank ones where there are not so many: no read gives those, so that a call refuses them as 11.
+#[tactic(auto, unfolding(crate::specs::First::first_of))]
 pub fn listing_of(shape: Shape, list: &[Wire]) -> Listing
     ensures { result ≡ listing_of shape list.now }
 {
-    let k = clip(list.len(), shape);
-    let wires = fetch(list, k);
-    listed(shape, wires)
+    let k = clip(list.len(), shape.n);
+    Listing {
+        shape,
+        wires: fetch(list, k),
+    }
 }

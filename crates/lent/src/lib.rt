@@ -16,9 +16,7 @@ pub fn read(text: &[u8], list: &mut [Wire]) -> Filled
     ensures { ReadsInto text.now list.old result list.new }
 {
     let r = filling::read_for(text, list.len());
-    let ws = filling::wires_of(r);
-    let n = filling::size_of(r);
-    copies::store(ws, n, list);
+    copies::store(filling::wires_of(r), filling::size_of(r), list);
     filling::answer_of(r)
 }
 
@@ -28,8 +26,7 @@ pub fn read(text: &[u8], list: &mut [Wire]) -> Filled
 pub fn write(shape: Shape, list: &[Wire], buf: &mut [u8]) -> Written
     ensures { WritesInto shape list.now buf.old result buf.new }
 {
-    let listing = copies::listing_of(shape, list);
-    writer::write(listing, buf)
+    writer::write(copies::listing_of(shape, list), buf)
 }
 
 // Runs the routine.
@@ -43,8 +40,13 @@ pub fn run(
 ) -> Ran
     ensures { RunsInto shape list.now shares randoms publics buf.old result buf.new }
 {
-    let listing = copies::listing_of(shape, list);
-    runner::run(listing, shares, randoms, publics, buf)
+    runner::run(
+        copies::listing_of(shape, list),
+        shares,
+        randoms,
+        publics,
+        buf,
+    )
 }
 
 // ---- one probe set
@@ -53,16 +55,14 @@ pub fn run(
 pub fn needs(shape: Shape, list: &[Wire], t: usize, set: ProbeSet) -> Needed
     ensures { result ≡ lent_needing shape list.now t set }
 {
-    let listing = copies::listing_of(shape, list);
-    rule::needs(listing, t, set)
+    rule::needs(copies::listing_of(shape, list), t, set)
 }
 
 // The padding steps of a set, and whether it is plain-open at order t.
 pub fn pads(shape: Shape, list: &[Wire], t: usize, set: ProbeSet) -> Padded
     ensures { result ≡ lent_padding shape list.now t set }
 {
-    let listing = copies::listing_of(shape, list);
-    rule::pads(listing, t, set)
+    rule::pads(copies::listing_of(shape, list), t, set)
 }
 
 // ---- the judgements
@@ -71,6 +71,5 @@ pub fn pads(shape: Shape, list: &[Wire], t: usize, set: ProbeSet) -> Padded
 pub fn judge(shape: Shape, list: &[Wire], which: Which, t: usize) -> Judged
     ensures { result ≡ lent_judged (judgement_of which) shape list.now t }
 {
-    let listing = copies::listing_of(shape, list);
-    judge::judge(listing, which, t)
+    judge::judge(copies::listing_of(shape, list), which, t)
 }

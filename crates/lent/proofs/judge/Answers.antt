@@ -5,4 +5,4 @@ use Rattle.lent.proofs.judge.Goals as goal
 
 pub returns : goal.returns
 returns c =
-    judge_same (judgement_of c.args.which) c.args.shape c.args.list.now c.args.t (rw c.listing_of-listing.ensures at c.judge.ensures)
+    judge_same (judgement_of c.args.which) c.args.shape c.args.list.now c.args.t (rw c.listing_of.ensures at c.judge.ensures)

@@ -5,4 +5,4 @@ use Rattle.lent.proofs.run.Goals as goal
 pub returns : goal.returns
 returns c =
     run_same c.args.shape c.args.list.now c.args.buf.now c.args.shares c.args.randoms c.args.publics
-    (rw c.listing_of-listing.ensures at c.run.ensures)
+    (rw c.listing_of.ensures at c.run.ensures)
