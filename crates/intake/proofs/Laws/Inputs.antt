@@ -1,10 +1,9 @@
 -- What a read input promises its callers.
-use Rattle.std.specs.Prelude.{ℕ, ℤ}
-use Rattle.intake.specs.declared.Input.{Input}
-use Rattle.intake.specs.declared.Input.TheVariants as Is
-use Rattle.intake.specs.Intake.{InputEnded, InputWithin}
+use Rattle.std.specs.Prelude.{ℕ, Result, Ok, Err}
+use Rattle.std.specs.declared.io.Error.{Error}
+use Rattle.intake.specs.Intake.{input_of, InputEnded, InputWithin}
 
 -- however an input ended, it lies within the room
-pub ended_within : (input : Input) (done : ℕ) (last : ℤ) (room : ℕ) → InputEnded input done last room → InputWithin input room
-ended_within (Is.Whole n) done last room e = e.0
-ended_within Is.Failed done last room e = tt
+pub ended_within : (done : ℕ) (last : Result ℕ Error) (room : ℕ) → InputEnded done last room → InputWithin (input_of done last) room
+ended_within done (Ok n) room e = e.0
+ended_within done (Err f) room e = tt
