@@ -6,7 +6,6 @@ ghost use Rattle.std.specs.Prelude.{length};
 ghost use Rattle.intake.specs.Intake.{InputWithin};
 ghost use Rattle.desk.specs.Answers.{DeskAnswered};
 
-use intake::Input;
 use std::io;
 
 // One byte more than a text may have is read, so that a longer input is refused and not cut.
@@ -14,22 +13,20 @@ const INPUT_ROOM: usize = 4097;
 
 // Puts what is printed of the input whose bytes are in text, and gives its length: nothing of a failed one.
 #[tactic(auto, unfolding(crate::specs::Answers::desk_answers))]
-fn answer(input: Input, text: &[u8], out: &mut [u8; report::ROOM]) -> usize
+fn answer(input: io::Result<usize>, text: &[u8], out: &mut [u8; report::ROOM]) -> usize
     requires { InputWithin input (length text.now) }
     ensures { DeskAnswered input text.now out.old result out.new }
 {
     match input {
-        Input::Whole(n) => report::report(&text[..n], out),
-        Input::Failed => 0,
+        Ok(n) => report::report(&text[..n], out),
+        Err(_) => 0,
     }
 }
 
 // The system's words for an error, without the number that std puts behind them.
 fn words(said: &str) -> &str {
-    match said.split_once(" (os error ") {
-        Some((words, _)) => words,
-        None => said,
-    }
+    said.split_once(" (os error ")
+        .map_or(said, |(words, _)| words)
 }
 
 // Says what failed, and in the system's words why.
@@ -42,23 +39,22 @@ fn fail(rt: &(impl Eprint + Alloc), what: &str, error: io::Error) -> io::Result<
 // Says which call failed, if one did.
 fn complain(
     rt: &(impl Eprint + Alloc),
-    unread: Option<io::Error>,
+    input: io::Result<usize>,
     written: io::Result<()>,
 ) -> io::Result<()> {
-    match (unread, written) {
-        (Some(error), _) => fail(rt, "desk: standard input", error),
-        (None, Err(error)) => fail(rt, "desk: standard output", error),
-        (None, Ok(())) => Ok(()),
+    match (input, written) {
+        (Err(error), _) => fail(rt, "desk: standard input", error),
+        (_, Err(error)) => fail(rt, "desk: standard output", error),
+        _ => Ok(()),
     }
 }
 
 // Reads, judges and prints.
 fn main(rt: HostRuntime) -> io::Result<()> {
     let mut text = [0u8; INPUT_ROOM];
-    let taken = intake::read_whole(&mut rt.stdin(), &mut text);
-    let input = taken.input;
+    let input = intake::read_whole(&mut rt.stdin(), &mut text).input();
     let mut out = [0u8; report::ROOM];
     let len = answer(input, &text, &mut out);
     let written = rt.write_all(&out[..len]);
-    complain(&rt, taken.error, written)
+    complain(&rt, input, written)
 }
