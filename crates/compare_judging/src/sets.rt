@@ -1,8 +1,7 @@
 // Additions to probe sets, the needed shares and the steps of one set, each by both; and what needed shares mean, by counting.
 use compare_answers::{same, tally};
-use compare_lines::wires;
 use compare_making::{chance, lending};
-use compare_rules::starts::Small;
+use compare_rules::starts::{Small, Table};
 use compare_rules::{adding, judging, padding, starts};
 use data::{Listing, ProbeSet};
 
@@ -10,28 +9,24 @@ use data::{Listing, ProbeSet};
 
 // Up to `size` wires below n.
 fn ascending(seed: u64, n: usize, size: usize) -> ProbeSet {
-    let mut set = judging::nothing();
-    let mut i = 0;
-    let mut k: u64 = 60;
-    while i < size {
-        let a = adding::add(set, chance::below(seed, k, n));
-        let next = a.set;
-        set = next;
-        k = std::num::wrapping_add_u64(k, 1);
-        i += 1;
+    let mut set = judging::EMPTY;
+    for k in (60..).take(size) {
+        set = adding::add(set, chance::below(seed, k, n)).set;
     }
     set
 }
 
+fn byte_drawn(seed: u64, k: u64, n: usize) -> u8 {
+    (chance::below(seed, k, n) % 256) as u8
+}
+
 // Any four places and any length: mostly no set.
 fn malformed(seed: u64) -> ProbeSet {
-    let a = chance::below(seed, 70, 140);
-    let b = chance::below(seed, 71, 140);
     let places = [
-        wires::low_byte(a),
-        wires::low_byte(b),
-        wires::low_byte(chance::below(seed, 72, 256)),
-        wires::low_byte(chance::below(seed, 73, 256)),
+        byte_drawn(seed, 70, 140),
+        byte_drawn(seed, 71, 140),
+        byte_drawn(seed, 72, 256),
+        byte_drawn(seed, 73, 256),
     ];
     ProbeSet {
         places,
@@ -44,28 +39,20 @@ fn set_drawn(seed: u64, n: usize, size: usize) -> ProbeSet {
     if chance::one_in(seed, 75, 12) {
         return malformed(seed);
     }
-    ascending(
-        seed,
-        n,
-        std::num::wrapping_add_usize(chance::below(seed, 76, size), 1),
-    )
+    ascending(seed, n, chance::below(seed, 76, size).wrapping_add(1))
 }
 
 // ---- additions
 
 fn compare_addition(t: [u64; 104], set: ProbeSet, w: usize) -> [u64; 104] {
-    let r = set.add(w);
-    let a = adding::add(set, w);
-    tally::compared(t, tally::ADDITIONS, same::same_addition(r, a))
+    tally::compared(t, tally::ADDITIONS, set.add(w) == adding::add(set, w))
 }
 
 pub fn compare_additions(t: [u64; 104], seed: u64) -> [u64; 104] {
-    let n = std::num::wrapping_add_usize(chance::below(seed, 77, 128), 1);
-    let set = set_drawn(seed, n, 4);
-    let w = chance::below(seed, 78, 132);
-    let u = compare_addition(t, set, w);
+    let n = chance::below(seed, 77, 128).wrapping_add(1);
+    let t = compare_addition(t, set_drawn(seed, n, 4), chance::below(seed, 78, 132));
     let small = set_drawn(chance::draw(seed, 79), 6, 3);
-    compare_addition(u, small, chance::below(seed, 80, 8))
+    compare_addition(t, small, chance::below(seed, 80, 8))
 }
 
 // ---- one set
@@ -77,10 +64,7 @@ fn order_drawn(seed: u64, d: usize) -> usize {
     if d < 2 {
         return 1;
     }
-    std::num::wrapping_add_usize(
-        chance::below(seed, 82, std::num::wrapping_sub_usize(d, 1)),
-        1,
-    )
+    chance::below(seed, 82, d - 1).wrapping_add(1)
 }
 
 // Now and then more wires than the order.
@@ -91,60 +75,48 @@ fn size_drawn(seed: u64, order: usize) -> usize {
     order
 }
 
-// The other answer of the routine with all its records, or that of a list that does not hold it.
-fn listed_answer(g: Listing, order: usize, set: ProbeSet, own: padding::Answer) -> padding::Answer {
-    if g.shape.n <= 100 {
-        return own;
-    }
-    padding::judge_set(lending::held(g, true), order, set)
-}
-
-// Over a lent list.
+// Over a lent list: the other answers are those of the routine with all its records, or of a list that does not hold it.
 fn compare_listed(
     t: [u64; 104],
-    g: Listing,
+    g: &Listing,
     order: usize,
     set: ProbeSet,
-    all: padding::Answer,
+    all: padding::Answers,
 ) -> [u64; 104] {
-    let shape = g.shape;
-    let ws = g.wires;
-    let list = lending::few(ws);
-    let own = listed_answer(g, order, set, all);
-    let r = compare_lists::needs(shape, list, order, set);
-    let p = compare_lists::pads(shape, list, order, set);
-    let u = tally::compared(t, tally::LENT_NEEDED, same::same_needed(r, own));
-    tally::compared(u, tally::LENT_STEPS, same::same_padded(p, own))
+    let list = lending::few(g.wires);
+    let needed = compare_lists::needs(g.shape, list, order, set);
+    let padded = compare_lists::pads(g.shape, list, order, set);
+    let own = if g.shape.n <= 100 {
+        all
+    } else {
+        padding::judge_set(&lending::held(*g, true), order, &set)
+    };
+    let t = tally::compared(t, tally::LENT_NEEDED, needed == own.needed);
+    tally::compared(t, tally::LENT_STEPS, padded == own.padded)
 }
 
-fn compare_set(t: [u64; 104], g: Listing, order: usize, set: ProbeSet) -> [u64; 104] {
-    let own = padding::judge_set(g, order, set);
-    let r = rule::needs(g, order, set);
-    let p = rule::pads(g, order, set);
-    let u = tally::compared(t, tally::NEEDED, same::same_needed(r, own));
-    let v = tally::compared(u, tally::STEPS, same::same_padded(p, own));
-    let listed = compare_listed(v, g, order, set, own);
-    let w = tally::refused(listed, own.refusal);
-    if own.refusal != 0 {
-        return w;
+fn compare_set(t: [u64; 104], g: &Listing, order: usize, set: ProbeSet) -> [u64; 104] {
+    let own = padding::judge_set(g, order, &set);
+    let needed = rule::needs(*g, order, set);
+    let padded = rule::pads(*g, order, set);
+    let t = tally::compared(t, tally::NEEDED, needed == own.needed);
+    let t = tally::compared(t, tally::STEPS, padded == own.padded);
+    let t = compare_listed(t, g, order, set, own);
+    let t = tally::refused(t, same::number(own.needed.outcome));
+    if own.needed.outcome.is_err() {
+        return t;
     }
-    let steps = own.len;
-    let x = tally::outcome(w, tally::SETS_CLOSED, own.undecided);
-    tally::more(x, tally::STEPS_MADE, steps as u64)
+    let t = tally::outcome(t, tally::SETS_CLOSED, own.needed.undecided);
+    tally::more(t, tally::STEPS_MADE, own.padded.len as u64)
 }
 
-pub fn compare_sets(t: [u64; 104], g: Listing, seed: u64, count: u64) -> [u64; 104] {
-    let mut u = t;
-    let mut k: u64 = 0;
-    while k < count {
+pub fn compare_sets(t: [u64; 104], g: &Listing, seed: u64, count: u64) -> [u64; 104] {
+    (0..count).fold(t, |t, k| {
         let own = chance::draw(seed, k);
         let order = order_drawn(own, g.shape.d);
         let set = set_drawn(own, g.shape.n, size_drawn(own, order));
-        let next = compare_set(u, g, order, set);
-        u = next;
-        k += 1;
-    }
-    u
+        compare_set(t, g, order, set)
+    })
 }
 
 // ---- drawings
@@ -152,48 +124,30 @@ pub fn compare_sets(t: [u64; 104], g: Listing, seed: u64, count: u64) -> [u64; 1
 // 9.29: how often the randoms give each pattern of the set depends on needed shares alone, those that the product gives.
 fn compare_drawn(
     t: [u64; 104],
-    r: Small,
+    r: &Small,
+    table: &Table,
     order: usize,
     set: ProbeSet,
-    ones: &[u64; 512],
 ) -> [u64; 104] {
-    let own = padding::judge_set(r.listing, order, set);
-    if own.refusal != 0 {
+    let own = padding::judge_set(&r.listing, order, &set);
+    if own.needed.outcome.is_err() {
         return t;
     }
-    let n = rule::needs(r.listing, order, set);
-    let word = starts::dependent(r, set, ones);
-    tally::compared(t, tally::NEEDED_DRAWN, word | n.shares == n.shares)
-}
-
-fn compare_all_drawn(
-    t: [u64; 104],
-    r: Small,
-    seed: u64,
-    count: u64,
-    ones: &[u64; 512],
-) -> [u64; 104] {
-    let mut u = t;
-    let mut k: u64 = 0;
-    while k < count {
-        let own = chance::draw(seed, k);
-        let order = order_drawn(own, r.listing.shape.d);
-        let set = set_drawn(own, r.listing.shape.n, order);
-        let next = compare_drawn(u, r, order, set, ones);
-        u = next;
-        k += 1;
-    }
-    u
+    let needed = rule::needs(r.listing, order, set).shares;
+    let dependent = table.dependent(r, &set);
+    tally::compared(t, tally::NEEDED_DRAWN, dependent | needed == needed)
 }
 
 // Of a small routine, with some public bits.
-pub fn compare_draws(t: [u64; 104], g: Listing, seed: u64, count: u64) -> [u64; 104] {
-    let r = starts::starts_of(g);
-    if !starts::can_draw(r) {
+pub fn compare_draws(t: [u64; 104], g: &Listing, seed: u64, count: u64) -> [u64; 104] {
+    let Some(r) = starts::starts_of(g).filter(|r| starts::can_draw(r)) else {
         return t;
-    }
-    let mut ones = [0u64; 512];
-    let mut chosen = [0u64; 512];
-    starts::all_starts(r, chance::draw(seed, 91), &mut ones, &mut chosen);
-    compare_all_drawn(t, r, seed, count, &ones)
+    };
+    let table = Table::of(&r, chance::draw(seed, 91));
+    (0..count).fold(t, |t, k| {
+        let own = chance::draw(seed, k);
+        let order = order_drawn(own, g.shape.d);
+        let set = set_drawn(own, g.shape.n, order);
+        compare_drawn(t, &r, &table, order, set)
+    })
 }

@@ -1,73 +1,19 @@
 // Probe sets: whether they ascend, and the addition of a wire.
-use compare_lines::wires;
-use data::ProbeSet;
+use data::{Added, ProbeSet, Refusal};
 
-fn place(set: ProbeSet, i: usize) -> usize {
-    let places = set.places;
-    if i < 4 {
-        return wires::wide(places[i]);
-    }
-    0
+// The wires of the set: all four places where its length says more.
+pub fn held(set: &ProbeSet) -> &[u8] {
+    &set.places[..set.len.min(4)]
 }
 
 // Whether the set holds at most four places, each above the one before it.
-pub fn is_ascending(set: ProbeSet) -> bool {
-    if 4 < set.len {
-        return false;
-    }
-    let len = set.len;
-    let mut i = 1;
-    while i < len {
-        if place(set, i) <= place(set, i - 1) {
-            return false;
-        }
-        i += 1;
-    }
-    true
+pub fn is_ascending(set: &ProbeSet) -> bool {
+    set.len <= 4 && held(set).is_sorted_by(|a, b| *a < *b)
 }
 
 // Whether every held number is below n.
-pub fn is_below(set: ProbeSet, n: usize) -> bool {
-    let len = set.len;
-    let mut i = 0;
-    while i < len {
-        if n <= place(set, i) {
-            return false;
-        }
-        i += 1;
-    }
-    true
-}
-
-fn holds(set: ProbeSet, w: usize) -> bool {
-    let len = set.len;
-    let mut i = 0;
-    while i < len {
-        if place(set, i) == w {
-            return true;
-        }
-        i += 1;
-    }
-    false
-}
-
-// Bubbled down from the end until the place before is lower.
-fn settled(places: [u8; 4], end: usize) -> [u8; 4] {
-    let mut p = places;
-    let mut k = 0;
-    while k < end {
-        let i = end - k;
-        if i < 4 {
-            let above = p[i];
-            let below = p[i - 1];
-            if above < below {
-                p[i] = below;
-                p[i - 1] = above;
-            }
-        }
-        k += 1;
-    }
-    p
+pub fn is_below(set: &ProbeSet, n: usize) -> bool {
+    held(set).iter().all(|w| usize::from(*w) < n)
 }
 
 #[derive(Clone, Copy)]
@@ -76,24 +22,34 @@ pub struct Addition {
     pub set: ProbeSet,
 }
 
-pub fn add(set: ProbeSet, w: usize) -> Addition {
-    if (127 < w) | (3 < set.len) | !is_ascending(set) {
-        return Addition { refused: true, set };
+// The set with one wire more, sorted anew.
+fn with_wire(set: ProbeSet, w: usize) -> Result<ProbeSet, Refusal> {
+    let ProbeSet { mut places, len } = set;
+    if 127 < w || 3 < len || !is_ascending(&set) {
+        return Err(Refusal::Probes);
     }
-    if holds(set, w) {
-        return Addition { refused: true, set };
+    let wire = w as u8;
+    if held(&set).contains(&wire) {
+        return Err(Refusal::Probes);
     }
-    let mut places = set.places;
-    let end = set.len;
-    if end < 4 {
-        places[end] = wires::low_byte(w);
-    }
-    let sorted = settled(places, end);
-    Addition {
-        refused: false,
-        set: ProbeSet {
-            places: sorted,
-            len: std::num::wrapping_add_usize(end, 1),
+    places[len] = wire;
+    places[..len + 1].sort_unstable();
+    Ok(ProbeSet {
+        places,
+        len: len + 1,
+    })
+}
+
+// A refused addition hands the set back as it came.
+pub fn add(set: ProbeSet, w: usize) -> Added {
+    match with_wire(set, w) {
+        Ok(larger) => Added {
+            outcome: Ok(()),
+            set: larger,
+        },
+        Err(refusal) => Added {
+            outcome: Err(refusal),
+            set,
         },
     }
 }

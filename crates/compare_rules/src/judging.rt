@@ -1,109 +1,88 @@
 // The judgements: the sets of a size are counted through like an odometer, from the lowest to the highest.
-use crate::padding;
-use compare_lines::wires;
-use compare_texts::spelling;
-use data::{Kind, Listing, ProbeSet, Shape, Which, Wire};
+ghost use Rattle.std.specs.Iterator.{at_most};
 
-// The lowest set of so many wires.
-pub fn first_set(size: usize) -> ProbeSet {
-    let mut places = [0u8; 4];
-    let mut i = 0;
-    while i < 4 {
-        if i < size {
-            places[i] = wires::low_byte(i);
-        }
-        i += 1;
+use crate::adding::held;
+use crate::{padding, shares};
+use data::{Judged, Kind, Listing, ProbeSet, Verdict, Which, Wire};
+
+// ---- sets
+
+pub const EMPTY: ProbeSet = ProbeSet {
+    places: [0; 4],
+    len: 0,
+};
+
+// The lowest set of so many of n wires, if there is one.
+fn first_set(size: usize, n: usize) -> Option<ProbeSet> {
+    if n < size || 4 < size {
+        return None;
     }
-    ProbeSet { places, len: size }
+    let mut places = [0, 1, 2, 3];
+    places[size..].fill(0);
+    Some(ProbeSet { places, len: size })
 }
 
-// Whether place i can go up by one with the later places close behind it.
-fn has_room(set: ProbeSet, i: usize, n: usize) -> bool {
-    let places = set.places;
-    let len = set.len;
-    if i < 4 {
-        if i < len {
-            if len <= 4 {
-                return std::num::wrapping_add_usize(wires::wide(places[i]), len - i) < n;
-            }
-        }
+// The first place up by one, the later ones close behind it.
+fn raise(places: &mut [u8], first: u8) {
+    for (place, wire) in places.iter_mut().zip(first.wrapping_add(1)..) {
+        *place = wire;
     }
-    false
 }
 
-// The last place that can go up, or 4.
-pub fn rising(set: ProbeSet, n: usize) -> usize {
-    let mut last = 4;
-    let mut i = 0;
-    while i < 4 {
-        if has_room(set, i, n) {
-            last = i;
+// The next set: its last place that has room for itself and the later ones goes up.
+fn next_set(set: ProbeSet, n: usize) -> Option<ProbeSet> {
+    let mut next = set;
+    let size = set.len.min(4);
+    for i in (0..size).rev() {
+        let wire = set.places[i];
+        if usize::from(wire) + (size - i) < n {
+            raise(&mut next.places[i..size], wire);
+            return Some(next);
         }
-        i += 1;
     }
-    last
+    None
 }
 
-// That place up by one, the later ones close behind it.
-pub fn risen(set: ProbeSet, from: usize) -> ProbeSet {
-    let len = set.len;
-    let mut places = set.places;
-    let mut next = 0;
-    let mut i = 0;
-    while i < 4 {
-        if i == from {
-            next = std::num::wrapping_add_u8(places[i], 1);
+// All sets of a size; 128 wires have 10,668,000 of four.
+#[derive(Clone, Copy)]
+pub struct Sets {
+    n: usize,
+    next: Option<ProbeSet>,
+    left: u32,
+}
+
+impl Sets {
+    pub fn of_size(size: usize, n: usize) -> Sets {
+        Sets {
+            n,
+            next: first_set(size, n),
+            left: 10668000,
         }
-        if from <= i {
-            if i < len {
-                places[i] = next;
-                next = std::num::wrapping_add_u8(next, 1);
-            }
-        }
-        i += 1;
     }
-    ProbeSet { places, len }
+}
+
+impl Iterator for Sets {
+    type Item = ProbeSet;
+
+    ghost remaining = { λ s. at_most s.left };
+
+    fn next(&mut self) -> Option<ProbeSet> {
+        let set = self.next?;
+        self.left = self.left.checked_sub(1)?;
+        self.next = next_set(set, self.n);
+        Some(set)
+    }
 }
 
 // How many wires of the set are no outputs.
-pub fn inner(ws: [Wire; 128], set: ProbeSet) -> usize {
-    let places = set.places;
-    let len = set.len;
-    let mut count = 0;
-    let mut i = 0;
-    while i < 4 {
-        if i < len {
-            let x = wires::at(ws, wires::wide(places[i]));
-            if !x.out {
-                count = std::num::wrapping_add_usize(count, 1);
-            }
-        }
-        i += 1;
-    }
-    count
+pub fn inner(wires: &[Wire], set: &ProbeSet) -> usize {
+    held(set)
+        .iter()
+        .filter(|w| wires.get(usize::from(**w)).is_none_or(|x| !x.out))
+        .count()
 }
 
-// What is judged: the routine, the order and which judgement.
-#[derive(Clone, Copy)]
-struct Case {
-    strong: bool,
-    d: usize,
-    n: usize,
-    t: usize,
-    total: usize,
-    wires: [Wire; 128],
-}
-
-fn is_open(c: Case, set: ProbeSet) -> bool {
-    let ws = c.wires;
-    let p = padding::pad_all(c.n, ws, padding::probe_marks(set));
-    let live = p.live;
-    let word = padding::share_word(c.total, live);
-    if c.strong {
-        return padding::is_over(c.total, c.d, word, inner(ws, set));
-    }
-    padding::is_over(c.total, c.d, word, c.t)
-}
+// ---- judgements
 
 // A refusal or 0, whether a set was open, how many were judged, and that set.
 #[derive(Clone, Copy)]
@@ -114,107 +93,70 @@ pub struct Judgement {
     pub set: ProbeSet,
 }
 
-pub fn nothing() -> ProbeSet {
-    ProbeSet {
-        places: [0; 4],
-        len: 0,
+// What is judged, and at which order.
+#[derive(Clone, Copy)]
+struct Case<'a> {
+    listing: &'a Listing,
+    which: Which,
+    t: usize,
+}
+
+impl Case<'_> {
+    fn is_open(&self, set: &ProbeSet) -> bool {
+        let shape = self.listing.shape;
+        let wires = padding::records(self.listing);
+        let live = padding::pad_all(wires, padding::probe_marks(set)).live;
+        let bound = match self.which {
+            Which::Plain => self.t,
+            Which::Strong => inner(wires, set),
+        };
+        shares::is_over(shape, padding::share_word(shape, live), bound)
+    }
+
+    // The first open set of a size; the count goes up with each that is judged.
+    fn first_open(&self, size: usize, count: &mut u64) -> Option<ProbeSet> {
+        for set in Sets::of_size(size, self.listing.shape.n) {
+            *count = count.wrapping_add(1);
+            if self.is_open(&set) {
+                return Some(set);
+            }
+        }
+        None
     }
 }
 
-fn found(refusal: u64, hit: bool, count: u64, set: ProbeSet) -> Judgement {
-    Judgement {
-        refusal,
-        hit,
-        count,
-        set,
+pub fn judge(listing: &Listing, which: Which, t: usize) -> Judged {
+    if let Err(refusal) = padding::may_judge(listing, t) {
+        return Judged {
+            verdict: Verdict::Refused(refusal),
+            set: EMPTY,
+        };
     }
-}
-
-// All sets of a size up to the first open one; 128 wires have 10,668,000 sets of four.
-fn judge_size(c: Case, size: usize, before: u64) -> Judgement {
-    if c.n < size {
-        return found(0, false, before, nothing());
-    }
-    let mut set = first_set(size);
-    let mut count = before;
-    let mut k: u64 = 0;
-    while k < 10668000 {
-        count = std::num::wrapping_add_u64(count, 1);
-        if is_open(c, set) {
-            return found(0, true, count, set);
-        }
-        let from = rising(set, c.n);
-        if from == 4 {
-            return found(0, false, count, nothing());
-        }
-        let next = risen(set, from);
-        set = next;
-        k += 1;
-    }
-    found(0, false, count, nothing())
-}
-
-fn judge_sizes(c: Case, top: usize) -> Judgement {
-    let mut so_far = found(0, false, 0, nothing());
-    let mut size = 0;
-    while size < top {
-        size += 1;
-        let next = judge_size(c, size, so_far.count);
-        so_far = next;
-        if so_far.hit {
-            return so_far;
+    let case = Case { listing, which, t };
+    let mut count = 0;
+    for size in 1..=t {
+        if let Some(set) = case.first_open(size, &mut count) {
+            return Judged {
+                verdict: Verdict::Open(count),
+                set,
+            };
         }
     }
-    so_far
+    Judged {
+        verdict: Verdict::Pass(count),
+        set: EMPTY,
+    }
 }
 
 // The routine with no not that can be padded: an and of the operand with itself computes from the same wire, and no and is ever padded.
 // So the sets need what they need where a not is never padded.
-pub fn with_nots_kept(listing: Listing) -> Listing {
-    let shape = listing.shape;
-    let mut wires = listing.wires;
-    let mut w = 0;
-    while w < 128 {
-        let x = wires::at(wires, w);
-        if wires::code_at(wires, w) == wires::NOT {
-            let kept = Wire {
-                kind: Kind::And,
-                a: x.a,
-                b: x.a,
-                out: x.out,
-            };
-            wires[w] = kept;
+pub fn with_nots_kept(listing: &Listing) -> Listing {
+    let mut kept = *listing;
+    for x in &mut kept.wires {
+        if x.kind == Kind::Not {
+            x.kind = Kind::And;
+            x.b = x.a;
         }
-        w += 1;
     }
-    Listing { shape, wires }
-}
-
-fn is_strong(which: Which) -> bool {
-    match which {
-        Which::Plain => false,
-        Which::Strong => true,
-    }
-}
-
-pub fn judge(listing: Listing, which: Which, t: usize) -> Judgement {
-    let Shape { s, d, n } = listing.shape;
-    let wires = listing.wires;
-    let strong = is_strong(which);
-    if !spelling::could_be_read(listing) {
-        return found(11, false, 0, nothing());
-    }
-    if !padding::is_order(d, t) {
-        return found(12, false, 0, nothing());
-    }
-    let total = wires::shares(s, d);
-    let c = Case {
-        strong,
-        d,
-        n,
-        t,
-        total,
-        wires,
-    };
-    judge_sizes(c, t)
+    kept
 }

@@ -5,4 +5,5 @@
 pub mod adding;
 pub mod judging;
 pub mod padding;
+pub mod shares;
 pub mod starts;

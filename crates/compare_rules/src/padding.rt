@@ -1,16 +1,130 @@
 // The padding rule by search over the whole state: live by sweeps until nothing changes, consumers counted by looking at each wire.
-use crate::adding;
+use crate::{adding, shares};
 use compare_lines::wires;
 use compare_texts::marks::Marks;
 use compare_texts::{marks, spelling};
-use data::{Kind, Listing, ProbeSet, Shape, Step, Wire};
+use data::{Kind, Listing, Needed, Padded, ProbeSet, Refusal, Shape, Step, Wire};
 
-// A step, if one was found.
+// The records of the routine's wires.
+pub fn records(listing: &Listing) -> &[Wire] {
+    &listing.wires[..listing.shape.n.min(128)]
+}
+
+// ---- one wire
+
+// The wires that it computes from; of a not its one, twice.
+fn operands(x: Wire) -> Option<(u8, u8)> {
+    match x.kind {
+        Kind::Share | Kind::Rand | Kind::Pub => None,
+        Kind::Xor | Kind::And => Some((x.a, x.b)),
+        Kind::Not => Some((x.a, x.a)),
+    }
+}
+
+fn computes_from(x: Wire, r: u8) -> bool {
+    operands(x).is_some_and(|(a, b)| a == r || b == r)
+}
+
+// Whether the value turns with that of either operand: an xor's of two wires, a not's of its one.
+fn turns(x: Wire) -> bool {
+    match x.kind {
+        Kind::Share | Kind::Rand | Kind::Pub | Kind::And => false,
+        Kind::Xor => x.a != x.b,
+        Kind::Not => true,
+    }
+}
+
+// ---- the rule
+
+// The records, the probed wires, and the wires that are leaves and live.
 #[derive(Clone, Copy)]
-struct Pad {
-    found: bool,
-    w: usize,
-    r: usize,
+struct State<'a> {
+    wires: &'a [Wire],
+    probe: Marks,
+    leaf: Marks,
+    live: Marks,
+}
+
+impl<'a> State<'a> {
+    // The first leaves are the randoms.
+    fn begun(wires: &'a [Wire], probe: Marks) -> State<'a> {
+        let mut leaf = marks::none();
+        for (w, x) in wires.iter().enumerate() {
+            if x.kind == Kind::Rand {
+                leaf = marks::with(leaf, w);
+            }
+        }
+        State {
+            wires,
+            probe,
+            leaf,
+            live: probe,
+        }
+    }
+
+    // Whether the wire is live and no leaf, so that what it computes from is live.
+    fn is_computed(&self, w: usize) -> bool {
+        marks::has(self.live, w) && !marks::has(self.leaf, w)
+    }
+
+    // The live wires and what they compute from, from the last wire to the first.
+    fn sweep(&mut self) {
+        for (w, x) in self.wires.iter().enumerate().rev() {
+            if self.is_computed(w) {
+                if let Some((a, b)) = operands(*x) {
+                    let one = marks::with(self.live, usize::from(a));
+                    self.live = marks::with(one, usize::from(b));
+                }
+            }
+        }
+    }
+
+    // A sweep that changes something makes a wire live, so 128 are enough.
+    fn spread(&mut self) {
+        self.live = self.probe;
+        for _ in 0..129 {
+            let before = self.live;
+            self.sweep();
+            if marks::is_same(before, self.live) {
+                return;
+            }
+        }
+    }
+
+    // How many live wires that are no leaves compute from r.
+    fn consumers(&self, r: u8) -> usize {
+        self.wires
+            .iter()
+            .enumerate()
+            .filter(|(w, x)| self.is_computed(*w) && computes_from(**x, r))
+            .count()
+    }
+
+    // Whether r serves as the pad of a wire that computes from it.
+    fn serves(&self, r: u8) -> bool {
+        let w = usize::from(r);
+        !marks::has(self.probe, w) && marks::has(self.leaf, w) && self.consumers(r) == 1
+    }
+
+    // The step at w, if w can be padded: by its lower operand, or else by the other one.
+    fn step_at(&self, w: usize, x: Wire) -> Option<Step> {
+        if !turns(x) || !self.is_computed(w) {
+            return None;
+        }
+        let (a, b) = operands(x)?;
+        let w = wires::low_byte(w);
+        [a.min(b), a.max(b)]
+            .iter()
+            .find(|r| self.serves(**r))
+            .map(|r| Step { w, r: *r })
+    }
+
+    fn next_step(&self) -> Option<Step> {
+        self.wires
+            .iter()
+            .enumerate()
+            .find_map(|(w, x)| self.step_at(w, *x))
+    }
 }
 
 // All steps of a set, and the wires that are live at their end.
@@ -21,269 +135,40 @@ pub struct Padding {
     pub live: Marks,
 }
 
-// ---- live wires
-
-// Whether the wire computes from wire r.
-fn computes_from(x: Wire, r: usize) -> bool {
-    let a = wires::wide(x.a) == r;
-    let b = wires::wide(x.b) == r;
-    let k = x.kind;
-    match k {
-        Kind::Share => false,
-        Kind::Rand => false,
-        Kind::Pub => false,
-        Kind::Xor => a | b,
-        Kind::And => a | b,
-        Kind::Not => a,
-    }
-}
-
-fn with_operands(m: Marks, x: Wire) -> Marks {
-    let a = wires::wide(x.a);
-    let b = wires::wide(x.b);
-    let k = x.kind;
-    match k {
-        Kind::Share => m,
-        Kind::Rand => m,
-        Kind::Pub => m,
-        Kind::Xor => marks::with(marks::with(m, a), b),
-        Kind::And => marks::with(marks::with(m, a), b),
-        Kind::Not => marks::with(m, a),
-    }
-}
-
-fn sweep(n: usize, ws: [Wire; 128], leaf: Marks, live: Marks) -> Marks {
-    let mut m = live;
-    let mut u = n;
-    while 0 < u {
-        u -= 1;
-        if marks::has(m, u) & !marks::has(leaf, u) {
-            let next = with_operands(m, wires::at(ws, u));
-            m = next;
-        }
-    }
-    m
-}
-
-// A sweep that changes something makes a wire live, so 128 are enough.
-fn live(n: usize, ws: [Wire; 128], probe: Marks, leaf: Marks) -> Marks {
-    let mut m = probe;
-    let mut k: usize = 0;
-    while k < 129 {
-        let next = sweep(n, ws, leaf, m);
-        if marks::is_same(next, m) {
-            return m;
-        }
-        m = next;
-        k += 1;
-    }
-    m
-}
-
-// ---- steps
-
-// How many live wires that are no leaves compute from r.
-fn consumers(n: usize, ws: [Wire; 128], leaf: Marks, alive: Marks, r: usize) -> usize {
-    let mut count = 0;
-    let mut u = 0;
-    while u < n {
-        if marks::has(alive, u) & !marks::has(leaf, u) {
-            if computes_from(wires::at(ws, u), r) {
-                count = std::num::wrapping_add_usize(count, 1);
-            }
-        }
-        u += 1;
-    }
-    count
-}
-
-fn serves(n: usize, ws: [Wire; 128], probe: Marks, leaf: Marks, alive: Marks, r: usize) -> bool {
-    if marks::has(probe, r) {
-        return false;
-    }
-    if !marks::has(leaf, r) {
-        return false;
-    }
-    consumers(n, ws, leaf, alive, r) == 1
-}
-
-fn no_pad() -> Pad {
-    Pad {
-        found: false,
-        w: 0,
-        r: 0,
-    }
-}
-
-fn smaller(a: usize, b: usize) -> usize {
-    if a < b {
-        return a;
-    }
-    b
-}
-
-fn larger(a: usize, b: usize) -> usize {
-    if a < b {
-        return b;
-    }
-    a
-}
-
-// The second operand: that of a not is its first one.
-fn second(code: u8, a: usize, b: usize) -> usize {
-    if code == wires::NOT {
-        return a;
-    }
-    b
-}
-
-// Whether the value turns with that of either operand: an xor's of two wires, a not's of its one.
-fn turns(code: u8, a: usize, b: usize) -> bool {
-    if code == wires::XOR {
-        return a != b;
-    }
-    code == wires::NOT
-}
-
-// The step at w, if w can be padded.
-fn pad_at(n: usize, ws: [Wire; 128], probe: Marks, leaf: Marks, alive: Marks, w: usize) -> Pad {
-    let code = wires::code_at(ws, w);
-    let x = wires::at(ws, w);
-    let a = wires::wide(x.a);
-    let b = second(code, a, wires::wide(x.b));
-    if !turns(code, a, b) | marks::has(leaf, w) | !marks::has(alive, w) {
-        return no_pad();
-    }
-    let first = smaller(a, b);
-    if serves(n, ws, probe, leaf, alive, first) {
-        return Pad {
-            found: true,
-            w,
-            r: first,
-        };
-    }
-    let other = larger(a, b);
-    Pad {
-        found: serves(n, ws, probe, leaf, alive, other),
-        w,
-        r: other,
-    }
-}
-
-fn next_pad(n: usize, ws: [Wire; 128], probe: Marks, leaf: Marks, alive: Marks) -> Pad {
-    let mut w = 0;
-    while w < n {
-        let p = pad_at(n, ws, probe, leaf, alive, w);
-        if p.found {
-            return p;
-        }
-        w += 1;
-    }
-    no_pad()
-}
-
-fn random_wires(n: usize, ws: [Wire; 128]) -> Marks {
-    let mut m = marks::none();
-    let mut u = 0;
-    while u < n {
-        if wires::code_at(ws, u) == wires::RAND {
-            let next = marks::with(m, u);
-            m = next;
-        }
-        u += 1;
-    }
-    m
-}
-
-fn noted(steps: [Step; 128], k: usize, p: Pad) -> [Step; 128] {
-    let mut next = steps;
-    let w = wires::low_byte(p.w);
-    let r = wires::low_byte(p.r);
-    if k < 128 {
-        next[k] = Step { w, r };
-    }
-    next
-}
-
 // Every step makes one more wire a leaf, so 128 are enough.
-pub fn pad_all(n: usize, ws: [Wire; 128], probe: Marks) -> Padding {
-    let mut leaf = random_wires(n, ws);
-    let zero = Step { w: 0, r: 0 };
-    let mut steps = [zero; 128];
-    let mut alive = live(n, ws, probe, leaf);
-    let mut k = 0;
-    while k < 128 {
-        let p = next_pad(n, ws, probe, leaf, alive);
-        if !p.found {
-            return Padding {
-                len: k,
-                steps,
-                live: alive,
-            };
-        }
-        let more = noted(steps, k, p);
-        steps = more;
-        let next = marks::with(leaf, p.w);
-        leaf = next;
-        let now_live = live(n, ws, probe, leaf);
-        alive = now_live;
-        k += 1;
+pub fn pad_all(wires: &[Wire], probe: Marks) -> Padding {
+    let mut state = State::begun(wires, probe);
+    let mut steps = [Step { w: 0, r: 0 }; 128];
+    for len in 0..128 {
+        state.spread();
+        let live = state.live;
+        let Some(step) = state.next_step() else {
+            return Padding { len, steps, live };
+        };
+        steps[len] = step;
+        state.leaf = marks::with(state.leaf, usize::from(step.w));
     }
+    state.spread();
     Padding {
         len: 128,
         steps,
-        live: alive,
+        live: state.live,
     }
 }
 
 // ---- sets
 
-pub fn probe_marks(set: ProbeSet) -> Marks {
-    let places = set.places;
-    let len = set.len;
-    let mut m = marks::none();
-    let mut i = 0;
-    while i < 4 {
-        if i < len {
-            let next = marks::with(m, wires::wide(places[i]));
-            m = next;
-        }
-        i += 1;
+pub fn probe_marks(set: &ProbeSet) -> Marks {
+    let mut probe = marks::none();
+    for w in adding::held(set) {
+        probe = marks::with(probe, usize::from(*w));
     }
-    m
+    probe
 }
 
 // The live shares as a word.
-pub fn share_word(total: usize, alive: Marks) -> u64 {
-    let mut word = 0;
-    let mut k = 0;
-    while k < total {
-        word = word | wires::bit_of(marks::has(alive, k), k);
-        k += 1;
-    }
-    word
-}
-
-// Whether some secret has more than `bound` bits: counted share by share, and from nothing at each secret.
-pub fn is_over(total: usize, d: usize, word: u64, bound: usize) -> bool {
-    let mut count = 0;
-    let mut share = 0;
-    let mut k = 0;
-    while k < total {
-        if wires::bit(word, k) {
-            count = std::num::wrapping_add_usize(count, 1);
-            if bound < count {
-                return true;
-            }
-        }
-        share = std::num::wrapping_add_usize(share, 1);
-        if share == d {
-            share = 0;
-            count = 0;
-        }
-        k += 1;
-    }
-    false
+pub fn share_word(shape: Shape, live: Marks) -> u64 {
+    shares::word_of(wires::shares(shape.s, shape.d), |k| marks::has(live, k))
 }
 
 // The answer for one set of the padding calls: a refusal or 0, the needed shares, the steps, and whether it is plain-open.
@@ -296,45 +181,77 @@ pub struct Answer {
     pub steps: [Step; 128],
 }
 
-fn no_answer(refusal: u64) -> Answer {
-    let zero = Step { w: 0, r: 0 };
-    let steps = [zero; 128];
-    Answer {
-        refusal,
-        shares: 0,
-        undecided: false,
-        len: 0,
-        steps,
+// What the two calls on one set answer.
+#[derive(Clone, Copy)]
+pub struct Answers {
+    pub needed: Needed,
+    pub padded: Padded,
+}
+
+fn refused(refusal: Refusal) -> Answers {
+    let outcome = Err(refusal);
+    Answers {
+        needed: Needed {
+            outcome,
+            shares: 0,
+            undecided: false,
+        },
+        padded: Padded {
+            outcome,
+            steps: [Step { w: 0, r: 0 }; 128],
+            len: 0,
+            undecided: false,
+        },
     }
 }
 
-fn answer_of(total: usize, d: usize, t: usize, p: Padding) -> Answer {
-    let word = share_word(total, p.live);
+fn answered(shape: Shape, t: usize, p: Padding) -> Answers {
+    let outcome = Ok(());
+    let word = share_word(shape, p.live);
+    let undecided = shares::is_over(shape, word, t);
     let steps = p.steps;
-    Answer {
-        refusal: 0,
-        shares: word,
-        undecided: is_over(total, d, word, t),
-        len: p.len,
-        steps,
+    Answers {
+        needed: Needed {
+            outcome,
+            shares: word,
+            undecided,
+        },
+        padded: Padded {
+            outcome,
+            steps,
+            len: p.len,
+            undecided,
+        },
     }
 }
 
-pub fn is_order(d: usize, t: usize) -> bool {
-    (1 <= t) & (t <= 4) & (t < d)
+// The refusals of every call at an order, in their order.
+pub fn may_judge(listing: &Listing, t: usize) -> Result<(), Refusal> {
+    if !spelling::could_be_read(*listing) {
+        return Err(Refusal::Records);
+    }
+    if t < 1 || 4 < t || listing.shape.d <= t {
+        return Err(Refusal::Order);
+    }
+    Ok(())
 }
 
-pub fn judge_set(listing: Listing, t: usize, set: ProbeSet) -> Answer {
-    let Shape { s, d, n } = listing.shape;
-    let ws = listing.wires;
-    if !spelling::could_be_read(listing) {
-        return no_answer(11);
+fn may_judge_set(listing: &Listing, t: usize, set: &ProbeSet) -> Result<(), Refusal> {
+    may_judge(listing, t)?;
+    let fits = set.len != 0 && set.len <= t;
+    if fits && adding::is_ascending(set) && adding::is_below(set, listing.shape.n) {
+        return Ok(());
     }
-    if !is_order(d, t) {
-        return no_answer(12);
+    Err(Refusal::Probes)
+}
+
+pub fn judge_set(listing: &Listing, t: usize, set: &ProbeSet) -> Answers {
+    match may_judge_set(listing, t, set) {
+        Ok(()) => answered(
+            listing.shape,
+            t,
+            pad_all(records(listing), probe_marks(set)),
+        ),
+        Err(refusal) => refused(refusal),
     }
-    if (set.len == 0) | (t < set.len) | !adding::is_ascending(set) | !adding::is_below(set, n) {
-        return no_answer(13);
-    }
-    answer_of(wires::shares(s, d), d, t, pad_all(n, ws, probe_marks(set)))
 }

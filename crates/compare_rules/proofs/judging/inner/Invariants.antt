@@ -1,6 +1,0 @@
--- `compare_rules::judging::inner` is safe and ends.
-use Rattle.std.proofs.Common.{◌-◌}
-use Rattle.compare_rules.proofs.judging.inner.Given as goal
-
-abbrev pub decreases-loop-i : goal.decreases-loop-i
-decreases-loop-i l = 4 - l.i
