@@ -4,39 +4,28 @@
 use data::Which;
 use std::io;
 use std::io::{BufWriter, Write};
-use test_show::{say, say_verdict};
+use test_show::Answer;
 
 fn judgement_asked(asked: &[u8]) -> Which {
-    if 0 < asked.len() {
-        if asked[0] == b's' {
-            return Which::Strong;
-        }
+    if asked.starts_with(b"s") {
+        Which::Strong
+    } else {
+        Which::Plain
     }
-    Which::Plain
 }
 
 // The last digit; the digits are the bytes from 48 on.
 fn order_asked(asked: &[u8]) -> usize {
-    let len = asked.len();
-    if 0 < len {
-        return (asked[len - 1] % 16) as usize;
-    }
-    0
+    asked.last().map_or(0, |b| usize::from(*b % 16))
 }
 
 fn show(out: &mut impl Write, input: &[u8]) -> io::Result<()> {
-    let asked = test_show::text_at(input, 0);
-    let which = judgement_asked(asked);
-    let t = order_asked(asked);
-    let behind = asked.len();
-    if behind < input.len() {
-        let r = reader::read(&input[behind + 1..]);
-        let listing = r.listing;
-        let j = judge::judge(listing, which, t);
-        let v = j.verdict;
-        let set = j.set;
-        say(out, asked)?;
-        say_verdict(out, v, set)?;
+    let mut parts = input.splitn(2, |b| *b == 0);
+    if let (Some(asked), Some(text)) = (parts.next(), parts.next()) {
+        let r = reader::read(text);
+        let answer = judge::judge(r.listing, judgement_asked(asked), order_asked(asked));
+        out.write_all(asked)?;
+        writeln!(out, " {}", Answer(answer))?;
     }
     Ok(())
 }
