@@ -5,7 +5,7 @@ use Rattle.document.specs.Padding.{consumes}
 use Rattle.data.specs.declared.Kind.{Kind}
 use Rattle.data.specs.declared.Kind.TheVariants.{Share, Rand, Pub, Xor, And, Not}
 use Rattle.data.specs.declared.Wire.{Wire}
-use Rattle.marks.specs.Passes.{wired}
+use Rattle.marks.specs.Passes.{only_wires}
 
 -- ---- counting the operands of one wire, each once
 
@@ -31,6 +31,6 @@ pub record Spare (c : List ℕ) : Type 0 where
 
 -- ---- the counts over the wires from u on
 
-pub record Consumers (n : ℕ) (ws : List Wire) (leaf alive : Marks) (u : ℕ) (c : List ℕ) : Type 0 where
+pub record Consumers (ws : List Wire) (leaf alive : Marks) (u : ℕ) (c : List ℕ) : Type 0 where
   pub size : length c ≡ 128
-  pub counts : (r : ℕ) → r < 128 → get_or c r 0 + tally u (consumes (wired n ws) leaf alive r) ≡ tally n (consumes (wired n ws) leaf alive r)
+  pub counts : (r : ℕ) → r < 128 → get_or c r 0 + tally u (consumes (only_wires ws) leaf alive r) ≡ tally (length ws) (consumes (only_wires ws) leaf alive r)

@@ -1,12 +1,20 @@
 -- The run of the rule, step by step, to its end.
-use Rattle.std.specs.Prelude.{List, ℕ, ◌+◌, ◌*◌, length, set, replicate}
+use Rattle.std.specs.Prelude.{List, ℕ, ◌+◌, ◌*◌, ◌≤◌, ◌<◌, length, get_or, set, replicate}
 use Rattle.std.proofs.lemmas.List.Edits.{sets}
 use Rattle.data.specs.Basics.{Marks, at, mark}
-use Rattle.document.specs.Routine.{Routine, size}
+use Rattle.document.specs.Routine.{Routine, blank, size}
 use Rattle.document.specs.Padding.{first_leaves, live, stepped, steps_from, padded_wires, word}
 use Rattle.document.specs.Judgements.{no_step}
 use Rattle.data.specs.declared.Step.{Step}
+use Rattle.data.specs.declared.Wire.{Wire}
+use Rattle.marks.specs.Passes.{Low}
 use Rattle.rule.specs.declared.Run.{Run}
+
+-- n records are held, at most 128, with operands among the 128 marks
+pub record Wired (n : ℕ) (ws : List Wire) : Type 0 where
+  pub few : n ≤ 128
+  pub long : n ≤ length ws
+  pub low : (u : ℕ) → u < n → Low (get_or ws u blank)
 
 -- ---- one step more
 

@@ -1,2 +1,3 @@
 -- What the search for the next step goes by.
 pub mod Next
+pub mod Searching

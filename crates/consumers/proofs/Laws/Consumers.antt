@@ -15,8 +15,7 @@ use Rattle.data.specs.declared.Kind.{Kind}
 use Rattle.data.specs.declared.Kind.TheVariants.{Share, Rand, Pub, Xor, And, Not}
 use Rattle.data.specs.declared.Wire.{Wire}
 use Rattle.counts.specs.Counting.{record_at}
-use Rattle.counts.proofs.Laws.Counts.{wire_is}
-use Rattle.marks.specs.Passes.{only_wires, wired, Low}
+use Rattle.marks.specs.Passes.{only_wires, Low}
 use Rattle.consumers.specs.Consumers.{bumped, bumped_two, counted_with, Spare, Consumers}
 
 pub bumped_other : (c : List ℕ) (a v : ℕ) → v ≢ a → get_or (bumped c a) v 0 ≡ get_or c v 0
@@ -88,53 +87,51 @@ counted_length Xor a b c = two_length a b c
 counted_length And a b c = two_length a b c
 counted_length Not a b c = bumped_length c a
 
-module _ (n : ℕ) (ws : List Wire) (leaf alive : Marks) where
-  pub counts_none : Consumers n ws leaf alive n (replicate 128 0)
+module _ (ws : List Wire) (leaf alive : Marks) where
+  pub counts_none : Consumers ws leaf alive (length ws) (replicate 128 0)
   counts_none = record { size = length-replicate {A = ℕ} 128 0; counts = λ r h. let z = get_or-replicate {A = ℕ} 128 r 0 0 h in omega arith }
 
-  pub counts_all : (u : ℕ) (c : List ℕ) → u ≤ 0 → Consumers n ws leaf alive u c → (r : ℕ) → r < 128 → get_or c r 0 ≡ tally n (consumes (wired n ws) leaf alive r)
+  pub counts_all : (u : ℕ) (c : List ℕ) → u ≤ 0 → Consumers ws leaf alive u c → (r : ℕ) → r < 128 → get_or c r 0 ≡ tally (length ws) (consumes (only_wires ws) leaf alive r)
   unfolding tally
   counts_all zero c h k r hr = let z = k.counts r hr in omega arith
   counts_all (suc u) c h k r hr = absurd (omega arith)
 
-  pub counts_spare : (u : ℕ) (c : List ℕ) → n ≤ 128 → Consumers n ws leaf alive u c → Spare c
-  counts_spare u c h k = record { spare = λ v l. let a = k.counts v l in let b = tally_max n (consumes (wired n ws) leaf alive v) in omega arith }
+  pub counts_spare : (u : ℕ) (c : List ℕ) → length ws ≤ 128 → Consumers ws leaf alive u c → Spare c
+  counts_spare u c h k = record { spare = λ v l. let a = k.counts v l in let b = tally_max (length ws) (consumes (only_wires ws) leaf alive v) in omega arith }
 
-  less : (u r : ℕ) → 0 < u → tally u (consumes (wired n ws) leaf alive r)
-      ≡ one (consumes (wired n ws) leaf alive r (u - 1)) + tally (u - 1) (consumes (wired n ws) leaf alive r)
+  less : (u r : ℕ) → 0 < u → tally u (consumes (only_wires ws) leaf alive r)
+      ≡ one (consumes (only_wires ws) leaf alive r (u - 1)) + tally (u - 1) (consumes (only_wires ws) leaf alive r)
   unfolding tally
   less zero r h = absurd (omega arith)
   less (suc u) r h = let e : suc u - 1 ≡ u = omega arith in rw e
 
-  pub counts_on : (u : ℕ) (c : List ℕ) → 0 < u → u ≤ n → Low (record_at ws (u - 1)) → at alive (u - 1) ≡ true → at leaf (u - 1) ≡ false
-      → Consumers n ws leaf alive u c
-      → Consumers n ws leaf alive (u - 1) (counted_with (record_at ws (u - 1)).kind (record_at ws (u - 1)).a (record_at ws (u - 1)).b c)
+  pub counts_on : (u : ℕ) (c : List ℕ) → 0 < u → Low (record_at ws (u - 1)) → at alive (u - 1) ≡ true → at leaf (u - 1) ≡ false
+      → Consumers ws leaf alive u c
+      → Consumers ws leaf alive (u - 1) (counted_with (record_at ws (u - 1)).kind (record_at ws (u - 1)).a (record_at ws (u - 1)).b c)
   unfolding consumes operands
-  counts_on u c p h low i o k = record {
+  counts_on u c p low i o k = record {
     size = counted_length (record_at ws (u - 1)).kind (record_at ws (u - 1)).a (record_at ws (u - 1)).b c ∙ k.size;
     counts = λ r hr.
         let l = k.size in
         let x = record_at ws (u - 1) in
         let ha = low.low_a in
         let hb = low.low_b in
-        let e : elem r (operands (wired n ws) (u - 1)) ≡ elem r (operands_of x.kind x.a x.b) =
-        ap (λ (y : Wire). elem r (operands_of y.kind y.a y.b)) (wire_is (only_wires n) ws (u - 1) (omega arith)) in
-        let f : consumes (wired n ws) leaf alive r (u - 1) ≡ elem r (operands_of x.kind x.a x.b) =
-        ap₂ (λ (p q : Bool). p && not q && elem r (operands (wired n ws) (u - 1))) i o ∙ e in
+        let f : consumes (only_wires ws) leaf alive r (u - 1) ≡ elem r (operands_of x.kind x.a x.b) =
+        ap₂ (λ (p q : Bool). p && not q && elem r (operands (only_wires ws) (u - 1))) i o in
         let z = counted_at x.kind x.a x.b c r (omega arith) (omega arith) in
         let y = k.counts r hr in
         let w = less u r p in
-        let g : one (consumes (wired n ws) leaf alive r (u - 1)) ≡ one (elem r (operands_of x.kind x.a x.b)) = ap one f in
+        let g : one (consumes (only_wires ws) leaf alive r (u - 1)) ≡ one (elem r (operands_of x.kind x.a x.b)) = ap one f in
         omega arith;
   }
 
-  pub counts_off : (u : ℕ) (c : List ℕ) → 0 < u → (at alive (u - 1) && not (at leaf (u - 1))) ≡ false → Consumers n ws leaf alive u c
-      → Consumers n ws leaf alive (u - 1) c
+  pub counts_off : (u : ℕ) (c : List ℕ) → 0 < u → (at alive (u - 1) && not (at leaf (u - 1))) ≡ false → Consumers ws leaf alive u c
+      → Consumers ws leaf alive (u - 1) c
   unfolding consumes
   counts_off u c p o k = record {
     size = k.size;
     counts = λ r hr.
-        let g : one (consumes (wired n ws) leaf alive r (u - 1)) ≡ 0 = ap (λ (b : Bool). one (b && elem r (operands (wired n ws) (u - 1)))) o in
+        let g : one (consumes (only_wires ws) leaf alive r (u - 1)) ≡ 0 = ap (λ (b : Bool). one (b && elem r (operands (only_wires ws) (u - 1)))) o in
         let y = k.counts r hr in
         let w = less u r p in
         omega arith;

@@ -1,31 +1,18 @@
--- `consumers::consumer_counts` meets its contract. The loop's invariant: the counts and the consumers below u make all consumers.
-use Prim.Native.Nat.{◌-◌}
-use native.Mathlib.Omega.{arith}
-use borrow.Author.Rules.{rules}
+-- `consumers::consumer_counts` meets its contract.
+use Rattle.std.proofs.Common.{arith, rules}
 use Rattle.consumers.proofs.Laws.Consumers.{counts_none, counts_spare, counts_on, counts_off}
 use Rattle.consumers.proofs.consumer_counts.Goals as goal
 
 pub loop-u-init : goal.loop-u-init
-loop-u-init c = (search rules, counts_none c.args.n c.args.ws c.args.leaf c.args.alive)
+loop-u-init c = counts_none c.args.wires.list.now c.args.leaf.now c.args.alive.now
 
-pub count_operands-next-requires : goal.count_operands-next-requires
-count_operands-next-requires c = let s = c in
-    let l = c.loop-u in
-    (s.requires.low (l.u - 1) (omega arith), counts_spare s.args.n s.args.ws s.args.leaf s.args.alive l.u l.counts s.requires.few l.invariant.1)
+pub count_operands-requires : goal.count_operands-requires
+count_operands-requires c = (c.args.wires.marked.low _ (omega arith), counts_spare c.args.wires.list.now c.args.leaf.now c.args.alive.now c.loop-u.u c.loop-u.counts c.args.wires.marked.few c.loop-u.invariant)
 
 pub loop-u-preserved-then-not-leaf-u : goal.loop-u-preserved-then-not-leaf-u
-loop-u-preserved-then-not-leaf-u c = let s = c in
-    let l = c.loop-u in (
-      omega arith,
-      rw c.count_operands-next.ensures (counts_on s.args.n s.args.ws s.args.leaf s.args.alive l.u l.counts (omega arith) (omega arith)
-          (s.requires.low (l.u - 1) (omega arith)) (search rules) (search rules) l.invariant.1),
-    )
+loop-u-preserved-then-not-leaf-u c =
+    rw c.count_operands.ensures (counts_on c.args.wires.list.now c.args.leaf.now c.args.alive.now c.loop-u.u c.loop-u.counts (omega arith)
+    (c.args.wires.marked.low _ (omega arith)) (search rules) (search rules) c.loop-u.invariant)
 
 pub loop-u-preserved : goal.loop-u-preserved
-loop-u-preserved c = let s = c in
-    let l = c.loop-u in (
-      omega arith,
-      counts_off s.args.n s.args.ws s.args.leaf s.args.alive l.u l.counts (omega arith)
-          (grind arith)
-          l.invariant.1,
-    )
+loop-u-preserved c = counts_off c.args.wires.list.now c.args.leaf.now c.args.alive.now c.loop-u.u c.loop-u.counts (omega arith) (grind arith) c.loop-u.invariant

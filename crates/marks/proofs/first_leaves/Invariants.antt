@@ -1,13 +1,9 @@
--- `marks::first_leaves` meets its contract. The loop's invariant: the randoms from wire u on, marked too, make the first leaves.
-use mathlib.Core.Path.{◌≡◌}
-use Prim.Native.Nat.{◌-◌, ◌≤◌}
-use Rattle.document.specs.Padding.{rands_from}
+-- The randoms from wire u on, marked too, make the first leaves.
+use Rattle.std.specs.Prelude.{◌≡◌, ◌-◌, length}
+use Rattle.document.specs.Padding.{rands_from, first_leaves}
 use Rattle.data.specs.Basics.{mark}
-use Rattle.marks.specs.Passes.{wired}
+use Rattle.marks.specs.Passes.{only_wires}
 use Rattle.marks.proofs.first_leaves.Given as goal
 
 abbrev pub invariant-loop-u : goal.invariant-loop-u
-invariant-loop-u l = (l.u ≤ l.n) × (mark (rands_from (wired l.n l.ws) (l.n - l.u) l.u) l.leaf ≡ mark (rands_from (wired l.n l.ws) (l.n - 0) 0) l.initial.leaf)
-
-abbrev pub decreases-loop-u : goal.decreases-loop-u
-decreases-loop-u l = l.n - l.u
+invariant-loop-u l = let ws = l.fn.wires.list.now in mark (rands_from (only_wires ws) (length ws - l.u) l.u) l.leaf ≡ first_leaves (only_wires ws)

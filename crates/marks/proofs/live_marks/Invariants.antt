@@ -1,12 +1,8 @@
--- `marks::live_marks` meets its contract. The loop's invariant: the passes below u, made too, give the live wires.
-use mathlib.Core.Path.{◌≡◌}
-use Prim.Native.Nat.{◌≤◌}
-use Rattle.document.specs.Padding.{live_down}
-use Rattle.marks.specs.Passes.{wired}
+-- The passes below u, made too, give the live wires.
+use Rattle.std.specs.Prelude.{◌≡◌}
+use Rattle.document.specs.Padding.{live_down, live}
+use Rattle.marks.specs.Passes.{only_wires}
 use Rattle.marks.proofs.live_marks.Given as goal
 
 abbrev pub invariant-loop-u : goal.invariant-loop-u
-invariant-loop-u l = (l.u ≤ l.n) × (live_down (wired l.n l.ws) l.leaf l.u l.m ≡ live_down (wired l.n l.ws) l.leaf l.n l.initial.m)
-
-abbrev pub decreases-loop-u : goal.decreases-loop-u
-decreases-loop-u l = l.u
+invariant-loop-u l = live_down (only_wires l.fn.wires.list.now) l.leaf l.u l.m ≡ live (only_wires l.fn.wires.list.now) l.fn.probe l.leaf

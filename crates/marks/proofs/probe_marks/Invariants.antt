@@ -1,12 +1,9 @@
--- `marks::probe_marks` meets its contract. The loop's invariant: the places from i on, marked too, make the probed wires.
-use mathlib.Core.Path.{◌≡◌}
-use Prim.Native.Nat.{◌-◌, ◌≤◌}
-use lib.ListN.{take, drop}
+-- The held wires from place i on, marked too, make the probed ones.
+use Rattle.std.specs.Prelude.{◌≡◌, drop}
+use Rattle.document.specs.Padding.{probed}
 use Rattle.data.specs.Basics.{mark}
+use Rattle.data.specs.ProbeSets.{held}
 use Rattle.marks.proofs.probe_marks.Given as goal
 
-abbrev pub invariant-loop-i : goal.invariant-loop-i
-invariant-loop-i l = (l.i ≤ l.len) × (mark (drop l.i (take l.len l.places)) l.m ≡ mark (take l.len l.places) l.initial.m)
-
-abbrev pub decreases-loop-i : goal.decreases-loop-i
-decreases-loop-i l = l.len - l.i
+abbrev pub invariant-loop-w : goal.invariant-loop-w
+invariant-loop-w l = mark (drop l.w-index (held l.fn.set)) l.m ≡ probed (held l.fn.set)

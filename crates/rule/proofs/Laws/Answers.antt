@@ -1,5 +1,5 @@
 -- The answers of the two calls on one set, by the outcome of their tests.
-use Rattle.std.specs.Prelude.{◌≡◌, Bool, cond, ℕ, zero, suc, ◌+◌, ◌-◌, ◌*◌, ◌≤◌, leb, drop}
+use Rattle.std.specs.Prelude.{◌≡◌, Bool, true, cond, ℕ, zero, suc, ◌+◌, ◌-◌, ◌*◌, ◌≤◌, leb, drop}
 use Rattle.std.proofs.Math.Path.{refl, sym, ap, ap₂}
 use Rattle.std.proofs.Common.{◌∙◌, arith}
 use mathlib.Core.List.{List, ◌∷◌, ◌++◌}
@@ -8,7 +8,7 @@ use Rattle.std.proofs.lemmas.List.{length-replicate}
 use Rattle.std.proofs.lemmas.List.Edits.{sets, sets-eq}
 use Rattle.std.proofs.Math.Seq.{take-append-add}
 use Rattle.data.specs.Basics.{Marks, at}
-use Rattle.document.specs.Routine.{Routine, routine_of}
+use Rattle.document.specs.Routine.{Routine, routine_of, records_fit}
 use Rattle.data.specs.ProbeSets.{held}
 use Rattle.document.specs.Padding.{probed, steps, needed_shares, bits_of, needed_of, word, live}
 use Rattle.document.specs.Judgements.{plain, is_open, set_refusal, needed_not, needing, no_step, padded_not, step_list, padding}
@@ -24,15 +24,15 @@ use Rattle.data.specs.declared.ProbeSet.{ProbeSet}
 use Rattle.data.specs.declared.Step.{Step}
 use Rattle.data.specs.declared.Needed.{Needed}
 use Rattle.data.specs.declared.Padded.{Padded}
-use Rattle.marks.specs.Passes.{wired}
+use Rattle.marks.specs.Passes.{only_wires}
 use Rattle.shares.specs.Words.{ones_of, some_over}
-use Rattle.asking.specs.Checks.{Accepted, checked}
+use Rattle.asking.specs.Checks.{checked}
 use Rattle.asking.proofs.Laws.Checks.{settled, passed_of, by_outcome}
 use Rattle.rule.specs.declared.Run.{Run}
 use Rattle.rule.specs.declared.Observed.{Observed}
 use Rattle.rule.specs.Run.{run_of, needed_by}
-use Rattle.rule.specs.Calls.{observed_of}
-use Rattle.rule.proofs.Laws.Run.{needed_is, steps_are, len_is, run_same, needed_same}
+use Rattle.rule.specs.Calls.{observed_of, observed_if}
+use Rattle.rule.proofs.Laws.Run.{needed_is, steps_are, len_is, run_same, needed_alone}
 use Rattle.rule.proofs.Laws.Calls.{few_steps}
 
 -- ---- the list of steps
@@ -70,26 +70,21 @@ module _ (σ : Shape) (ws : List Wire) (t : ℕ) (set : ProbeSet) where
   open_is = refl
 
   -- what the run over the wires alone comes to
-  pub observed_is : Accepted σ ws t set → (probe : Marks) → probe ≡ probed (held set) → (run : Run) → run ≡ run_of (wired σ.n ws) probe
-      → (shares : ℕ) → shares ≡ word (σ.s * σ.d) (at (live (wired σ.n ws) probe run.leaf)) → (b : Bool) → b ≡ some_over σ.s σ.d shares t
-      → ◌≡◌ {A = Observed} (record { steps = run.steps; len = run.len; shares = shares; undecided = b }) (observed_of R t set)
+  pub observed_is : (alone : List Wire) → alone ≡ R.wires → (probe : Marks) → probe ≡ probed (held set) → (run : Run) → run ≡ run_of (only_wires alone) probe
+      → (shares : ℕ) → shares ≡ word (σ.s * σ.d) (at (live (only_wires alone) probe run.leaf)) → (b : Bool) → b ≡ some_over σ.s σ.d shares t
+      → ◌≡◌ {A = Observed} (record { run = run; shares = shares; undecided = b }) (observed_of R t set)
   unfolding observed_of
-  observed_is ok probe marked run ran shares told b over =
-      let few = few_steps σ ws ok.good (held set) in
-      let whole : run ≡ run_of R (probed (held set)) = ran ∙ run_same σ ws probe ∙ ap (run_of R) marked in
-      let listing = ap (λ (r : Run). r.steps) whole ∙ steps_are R (held set) ∙ listed 128 (steps R (held set)) few in
-      let many = ap (λ (r : Run). r.len) whole ∙ len_is R (held set) in
+  observed_is alone w probe marked run ran shares told b over =
+      let whole : run ≡ run_of R (probed (held set)) = ran ∙ ap (λ (l : List Wire). run_of (only_wires l) probe) w ∙ run_same R probe ∙ ap (run_of R) marked in
       let needed : shares ≡ needed_shares R (held set) =
-      told ∙ ap (λ (r : Run). word (σ.s * σ.d) (at (live (wired σ.n ws) probe r.leaf))) ran
-      ∙ needed_same σ ws probe ∙ ap (needed_by R) marked ∙ needed_is R (held set) in
+      told ∙ needed_alone R probe alone w run ran ∙ ap (needed_by R) marked ∙ needed_is R (held set) in
       let opens : b ≡ is_open plain R t (held set) = over ∙ ap (λ (k : ℕ). some_over σ.s σ.d k t) needed ∙ open_is in
-      ap₂ {C = Observed} (λ (l : List Step) (k : ℕ). record { steps = l; len = k; shares = shares; undecided = b }) listing many
-      ∙ ap₂ {C = Observed} (λ (k : ℕ) (o : Bool). record {
-        steps = take 128 (steps R (held set) ++ replicate 128 no_step);
-        len = length (steps R (held set));
-        shares = k;
-        undecided = o;
-      }) needed opens
+      cc
+
+  -- the steps of its run, listed
+  steps_listed : records_fit σ ws ≡ true → (observed_of R t set).run.steps ≡ take 128 (steps R (held set) ++ replicate 128 no_step)
+  unfolding observed_of
+  steps_listed good = steps_are R (held set) ∙ listed 128 (steps R (held set)) (few_steps σ ws good (held set))
 
   needed_answer : Routine → Needed
   needed_answer R = record { outcome = Ok tt; shares = needed_shares R (held set); undecided = is_open plain R t (held set) }
@@ -123,10 +118,28 @@ module _ (σ : Shape) (ws : List Wire) (t : ℕ) (set : ProbeSet) where
 
   -- 16 is never given: a run has no more steps than there are wires
   pub padding_done : checked σ ws t set ≡ Ok tt → (x : Observed) → x ≡ observed_of R t set
-      → ◌≡◌ {A = Padded} (record { outcome = Ok tt; steps = x.steps; len = x.len; undecided = x.undecided }) (lent_padding σ ws t set)
+      → ◌≡◌ {A = Padded} (record { outcome = Ok tt; steps = x.run.steps; len = x.run.len; undecided = x.undecided }) (lent_padding σ ws t set)
   unfolding padded_answer step_list observed_of
   padding_done e x told =
-      let few = few_steps σ ws (passed_of σ ws t set e).good (held set) in
-      ap {B = Padded} (λ (y : Observed). record { outcome = Ok tt; steps = y.steps; len = y.len; undecided = y.undecided }) told
-      ∙ sym (cond_true _ _ (true_leb (length (steps R (held set))) 128 few))
+      let good = (passed_of σ ws t set e).good in
+      ap {B = Padded} (λ (y : Observed). record { outcome = Ok tt; steps = y.run.steps; len = y.run.len; undecided = y.undecided }) told
+      ∙ ap₂ {C = Padded} (λ (l : List Step) (k : ℕ). record { outcome = Ok tt; steps = l; len = k; undecided = is_open plain R t (held set) })
+      (steps_listed good) (len_is R (held set))
+      ∙ sym (cond_true _ _ (true_leb (length (steps R (held set))) 128 (few_steps σ ws good (held set))))
       ∙ ap (λ (o : Outcome). settled o padded_not (padded_answer R)) (sym e) ∙ by_outcome σ ws t set padded_not padded_answer ∙ padding_asks
+
+  -- ---- the outcome of the tests, from what was observed
+
+  pub seen_of : (x : Observed) → observed_if (checked σ ws t set) (observed_of R t set) ≡ Ok x → (checked σ ws t set ≡ Ok tt) × (x ≡ observed_of R t set)
+  seen_of x e = go (checked σ ws t set) e
+    where
+      go : (o : Outcome) → observed_if o (observed_of R t set) ≡ Ok x → (o ≡ Ok tt) × (x ≡ observed_of R t set)
+      go (Ok u) h = (refl, cc)
+      go (Err f) h = cc
+
+  pub refused_of : (f : Refusal) → observed_if (checked σ ws t set) (observed_of R t set) ≡ Err f → checked σ ws t set ≡ Err f
+  refused_of f e = go (checked σ ws t set) e
+    where
+      go : (o : Outcome) → observed_if o (observed_of R t set) ≡ Err f → o ≡ Err f
+      go (Ok u) h = cc
+      go (Err g) h = cc

@@ -12,8 +12,9 @@ use Rattle.data.specs.declared.Wire.{Wire}
 use Rattle.data.specs.declared.Shape.{Shape}
 use Rattle.data.specs.declared.ProbeSet.{ProbeSet}
 use Rattle.records.proofs.Laws.Fitting.{fit_of, a_within, b_within}
-use Rattle.marks.specs.Passes.{Wired, LowProbes}
+use Rattle.marks.specs.Passes.{LowProbes}
 use Rattle.shares.specs.Words.{Shares}
+use Rattle.rule.specs.Run.{Wired}
 use Rattle.asking.specs.Checks.{probes_in}
 
 mem_at : (xs : List ℕ) (i : ℕ) → i < length xs → Mem (get_or xs i 0) xs

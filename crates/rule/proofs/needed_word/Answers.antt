@@ -1,17 +1,8 @@
 -- `rule::needed_word` meets its contract. The run's leaves are the last.
-use mathlib.Core.Path.{ap, ◌∙◌}
-use Prim.Native.Nat.{◌*◌}
-use Rattle.document.specs.Padding.{word, live}
-use Rattle.data.specs.Basics.{at}
-use Rattle.marks.specs.Passes.{wired}
-use Rattle.rule.proofs.Laws.Run.{needed_same}
-use Rattle.rule.specs.declared.Run.{Run}
+use Rattle.std.proofs.Common.{◌∙◌}
+use Rattle.document.specs.Reading.{routine_in}
+use Rattle.rule.proofs.Laws.Run.{needed_alone}
 use Rattle.rule.proofs.needed_word.Goals as goal
 
 pub returns : goal.returns
-returns c = let s = c in
-    let l = s.args.listing in
-    let σ = l.shape in
-    c.live_shares.ensures
-    ∙ ap (λ (r : Run). word (σ.s * σ.d) (at (live (wired σ.n l.wires) s.args.probe r.leaf))) c.run_to_end-run.ensures
-    ∙ needed_same σ l.wires s.args.probe
+returns c = c.live_shares.ensures ∙ needed_alone (routine_in c.args.listing) c.args.probe _ c.wires_of-wires.ensures _ c.run_to_end-run.ensures

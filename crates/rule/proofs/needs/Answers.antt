@@ -1,21 +1,13 @@
--- `rule::needs` meets its contract: a refusal, or what the set comes to.
-use mathlib.Core.Path.{sym, ◌∙◌}
-use Rattle.asking.proofs.Laws.Checks.{passed_of}
-use Rattle.rule.proofs.Laws.Answers.{needing_not, needing_done}
+-- `rule::needs` meets its contract.
+use Rattle.std.proofs.Common.{sym, ◌∙◌}
+use Rattle.rule.proofs.Laws.Answers.{seen_of, refused_of, needing_not, needing_done}
 use Rattle.rule.proofs.needs.Goals as goal
 
-pub observe-seen-requires : goal.observe-seen-requires
-observe-seen-requires c = let t = c in
-    let a = t.args in
-    passed_of a.listing.shape a.listing.wires a.t a.set (sym t.check_set-outcome.ensures ∙ c.in-Ok.is)
+pub returns-in-Ok : goal.returns-in-Ok
+returns-in-Ok c = let l = c.args.listing in
+    let seen = seen_of l.shape l.wires c.args.t c.args.set c.in-Ok.seen (sym c.observe.ensures ∙ c.in-Ok.is) in
+    needing_done l.shape l.wires c.args.t c.args.set seen.0 _ seen.1
 
 pub returns-in-Err : goal.returns-in-Err
-returns-in-Err c = let t = c in
-    let a = t.args in
-    c.needed_not.ensures
-    ∙ needing_not a.listing.shape a.listing.wires a.t a.set _ (sym t.check_set-outcome.ensures ∙ c.in-Err.is)
-
-pub returns-in-Ok : goal.returns-in-Ok
-returns-in-Ok c = let t = c in
-    let a = t.args in
-    needing_done a.listing.shape a.listing.wires a.t a.set (sym t.check_set-outcome.ensures ∙ c.in-Ok.is) _ c.observe-seen.ensures
+returns-in-Err c = let l = c.args.listing in
+    needing_not l.shape l.wires c.args.t c.args.set _ (refused_of l.shape l.wires c.args.t c.args.set c.in-Err.refusal (sym c.observe.ensures ∙ c.in-Err.is))

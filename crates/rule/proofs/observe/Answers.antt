@@ -1,34 +1,38 @@
 -- `rule::observe` meets its contract. The passed tests give what the passes require.
-use mathlib.Core.Path.{◌≡◌}
-use borrow.Author.Rules.{rules}
-use lib.ListN.{length}
-use Rattle.asking.proofs.Laws.Checks.{order_high}
+use Rattle.std.proofs.Common.{sym, ap, ◌∙◌, ◌≡◌, length, rules, Result, Ok}
+use Rattle.data.specs.declared.Refusal.{Refusal}
+use Rattle.asking.specs.Checks.{checked}
+use Rattle.asking.proofs.Laws.Checks.{order_high, passed_of}
+use Rattle.rule.specs.declared.Observed.{Observed}
 use Rattle.rule.proofs.Laws.Calls.{probes_low, wired_of, shares_of}
 use Rattle.rule.proofs.Laws.Answers.{observed_is}
 use Rattle.rule.proofs.observe.Goals as goal
 
-pub probe_marks-probe-requires : goal.probe_marks-probe-requires
-probe_marks-probe-requires c = let s = c in
-    let σ = s.args.listing.shape in
-    let l : length s.args.set.places ≡ 4 = search rules in
-    probes_low σ.n s.args.t s.args.set l (order_high σ.d s.args.t s.requires.order)
-    (wired_of σ s.args.listing.wires s.requires.good).few s.requires.probes
+pub wires_of-wires-requires : goal.wires_of-wires-requires
+wires_of-wires-requires c = let l = c.args.listing in
+    wired_of l.shape l.wires (passed_of l.shape l.wires c.args.t c.args.set (sym c.check_set.ensures ∙ c.in_ok-check_set.was)).good
 
-pub run_to_end-run-requires : goal.run_to_end-run-requires
-run_to_end-run-requires c = let s = c in wired_of s.args.listing.shape s.args.listing.wires s.requires.good
+pub probe_marks-probe-requires : goal.probe_marks-probe-requires
+probe_marks-probe-requires c = let l = c.args.listing in
+    let ok = passed_of l.shape l.wires c.args.t c.args.set (sym c.check_set.ensures ∙ c.in_ok-check_set.was) in
+    let sized : length c.args.set.places ≡ 4 = search rules in
+    probes_low l.shape.n c.args.t c.args.set sized (order_high l.shape.d c.args.t ok.order) (wired_of l.shape l.wires ok.good).few ok.probes
+
+pub overflow_mul-listing : goal.overflow_mul-listing
+overflow_mul-listing c = let l = c.args.listing in
+    let fits = shares_of l.shape l.wires (passed_of l.shape l.wires c.args.t c.args.set (sym c.check_set.ensures ∙ c.in_ok-check_set.was)).good in
+    let few = fits.in_word in search rules
 
 pub live_shares-shares-requires : goal.live_shares-shares-requires
-live_shares-shares-requires c = let s = c in
-    let l = s.args.listing in
-    (wired_of l.shape l.wires s.requires.good, shares_of l.shape l.wires s.requires.good)
+live_shares-shares-requires c = let l = c.args.listing in
+    (shares_of l.shape l.wires (passed_of l.shape l.wires c.args.t c.args.set (sym c.check_set.ensures ∙ c.in_ok-check_set.was)).good).in_word
 
 pub over-undecided-requires : goal.over-undecided-requires
-over-undecided-requires c = let s = c in
-    shares_of s.args.listing.shape s.args.listing.wires s.requires.good
+over-undecided-requires c = let l = c.args.listing in
+    shares_of l.shape l.wires (passed_of l.shape l.wires c.args.t c.args.set (sym c.check_set.ensures ∙ c.in_ok-check_set.was)).good
 
 pub returns : goal.returns
-returns c = let shared = c in
-    let run = shared in
-    let s = run in
-    observed_is s.args.listing.shape s.args.listing.wires s.args.t s.args.set s.requires _ run.probe_marks-probe.ensures
-    _ run.run_to_end-run.ensures _ shared.live_shares-shares.ensures _ c.over-undecided.ensures
+returns c = let l = c.args.listing in
+    let e : checked l.shape l.wires c.args.t c.args.set ≡ Ok tt = sym c.check_set.ensures ∙ c.in_ok-check_set.was in
+    rw e (ap {B = Result Observed Refusal} Ok (observed_is l.shape l.wires c.args.t c.args.set _ c.wires_of-wires.ensures _ c.probe_marks-probe.ensures
+    _ c.run_to_end-run.ensures _ c.live_shares-shares.ensures _ c.over-undecided.ensures))

@@ -1,12 +1,9 @@
--- `rule::run_to_end` meets its contract. The loop's invariant: the steps still to come lead to the end of the whole run.
-use mathlib.Core.Path.{◌≡◌}
-use Prim.Native.Nat.{◌-◌, ◌≤◌}
-use Rattle.marks.specs.Passes.{wired}
-use Rattle.rule.specs.Run.{gone_on, run_begun}
+-- The steps still to come lead to the end of the whole run.
+use Rattle.std.specs.Prelude.{◌≡◌, ◌-◌, length}
+use Rattle.marks.specs.Passes.{only_wires}
+use Rattle.rule.specs.Run.{gone_on, run_of}
 use Rattle.rule.proofs.run_to_end.Given as goal
 
-abbrev pub invariant-loop-run : goal.invariant-loop-run
-invariant-loop-run l = (l.run.len ≤ l.n) × (gone_on (wired l.n l.ws) l.probe (l.n - l.run.len) l.run ≡ gone_on (wired l.n l.ws) l.probe (l.n - 0) (run_begun (wired l.n l.ws)))
-
-abbrev pub decreases-loop-run : goal.decreases-loop-run
-decreases-loop-run l = l.n - l.run.len
+abbrev pub invariant-loop : goal.invariant-loop
+invariant-loop l = let R = only_wires l.wires.list.now in
+    (l.run.len ≡ l.counter) × (gone_on R l.probe (length R.wires - l.counter) l.run ≡ run_of R l.probe)

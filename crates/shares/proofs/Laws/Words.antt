@@ -1,5 +1,5 @@
 -- The word of live shares, bit by bit, and the ones of one secret in it.
-use Rattle.std.specs.Prelude.{◌≡◌, refl, Bool, true, false, ◌||◌, ℕ, ◌+◌, ◌-◌, ◌*◌, ◌/◌, ◌%◌, ◌^◌, ◌≤◌, ◌<◌, ltb}
+use Rattle.std.specs.Prelude.{◌≡◌, refl, Bool, true, false, ℕ, ◌+◌, ◌-◌, ◌*◌, ◌/◌, ◌%◌, ◌^◌, ◌≤◌, ◌<◌, ltb}
 use Rattle.std.proofs.Common.{sym, ap, ◌∙◌, one-mul, add-zero, mul-le-mul_right, add-one, arith, lit<, pow_pos, pow_mono, shl_exact}
 use Rattle.std.specs.Int.Bits.{bit_and}
 use Rattle.std.proofs.lemmas.Nat.Bits.{and_high}
@@ -7,6 +7,8 @@ use Rattle.std.specs.Int.Count.{ones}
 use Rattle.std.proofs.lemmas.Nat.{ones_cat}
 use Rattle.std.proofs.Math.Pow.{high_ones, ones_lt}
 use Rattle.data.specs.Basics.{one, some}
+use Rattle.data.proofs.Laws.Tests.{true_ltb, some_none}
+use borrow.Author.Tests.{le-ltb}
 use Rattle.document.specs.Padding.{word}
 use Rattle.document.proofs.Laws.Words.{word_lt}
 use Rattle.shares.specs.Words.{Shares, ones_of, some_over}
@@ -19,26 +21,26 @@ secret_fits s d i h l = let a = mul-le-mul_right d l in let b = h.in_word in ome
 pub one_shl : (k : ℕ) → k < 64 → (1 * 2 ^ k) % 2 ^ 64 ≡ 2 ^ k
 one_shl k h = shl_exact {a = 1} 1 k 64 (lit< tt) (omega arith) ∙ one-mul (2 ^ k)
 
-pub bit_on : (k : ℕ) → k < 64 → (1 * 2 ^ k) % 2 ^ 64 ≡ one true * 2 ^ k
-bit_on k h = one_shl k h ∙ sym (one-mul (2 ^ k))
-
-pub bit_off : (k : ℕ) → 0 ≡ one false * 2 ^ k
-bit_off k = omega arith
-
-pub word_none : (f : ℕ → Bool) → 0 ≡ word 0 f
+pub word_none : (f : ℕ → Bool) → word 0 f ≡ 0
 unfolding word
 word_none f = refl
 
-pub word_more : (k : ℕ) (f : ℕ → Bool) → word k f + one (f k) * 2 ^ k ≡ word (k + 1) f
+more : (k : ℕ) (f : ℕ → Bool) → word (k + 1) f ≡ word k f + one (f k) * 2 ^ k
 unfolding word
-word_more k f = rw (add-one k) (omega arith)
+more k f = rw (add-one k) (omega arith)
 
-pub word_fits : (k : ℕ) (f : ℕ → Bool) → k < 64 → word k f + one (f k) * 2 ^ k < 2 ^ 64
-word_fits k f h =
-    let a = word_more k f in
+pub word_on : (k : ℕ) (f : ℕ → Bool) → k < 64 → f k ≡ true → word (k + 1) f ≡ word k f + (1 * 2 ^ k) % 2 ^ 64
+word_on k f h t = more k f ∙ rw (one_shl k h, t, one-mul (2 ^ k)) refl
+
+pub word_fits : (k : ℕ) (f : ℕ → Bool) → k < 64 → f k ≡ true → word k f + (1 * 2 ^ k) % 2 ^ 64 < 2 ^ 64
+word_fits k f h t =
+    let e = word_on k f h t in
     let b = word_lt (k + 1) f in
     let c : 2 ^ (k + 1) ≤ 2 ^ 64 = pow_mono {i = k + 1} {j = 64} (omega arith) in
     omega arith
+
+pub word_off : (k : ℕ) (f : ℕ → Bool) → f k ≡ false → word (k + 1) f ≡ word k f
+word_off k f o = more k f ∙ rw o (omega arith)
 
 -- ---- the ones of a secret
 
@@ -63,10 +65,21 @@ ones_masked w d i =
 
 -- ---- the secrets, one after the other
 
-pub over_none : (d shares bound : ℕ) → false ≡ some_over 0 d shares bound
+pub over_none : (d shares bound : ℕ) → some_over 0 d shares bound ≡ false
 unfolding some_over some
 over_none d shares bound = refl
 
-pub over_more : (i d shares bound : ℕ) → (some_over i d shares bound || ltb bound (ones_of d i shares)) ≡ some_over (i + 1) d shares bound
+pub over_on : (i d shares bound : ℕ) → some_over i d shares bound ≡ false → ones_of d i shares ≤ bound → some_over (i + 1) d shares bound ≡ false
 unfolding some_over some
-over_more i d shares bound = simp add-one
+over_on i d shares bound h l = rw (add-one i, h) (le-ltb bound (ones_of d i shares) l)
+
+pub over_here : (i s d shares bound : ℕ) → i < s → bound < ones_of d i shares → some_over s d shares bound ≡ true
+unfolding some_over
+over_here i s d shares bound h l = go (some_over s d shares bound) refl
+  where
+    go : (b : Bool) → some_over s d shares bound ≡ b → b ≡ true
+    go true e = refl
+    go false e =
+        let f = true_ltb bound (ones_of d i shares) l in
+        let g = some_none s (λ k. ltb bound (ones_of d k shares)) e i h in
+        cc
