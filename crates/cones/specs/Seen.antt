@@ -2,18 +2,17 @@
 use Rattle.std.specs.Prelude.{List, [], ◌∷◌, ℕ, get_or}
 use Rattle.std.specs.Int.Bits.{bit_or}
 use Rattle.document.specs.Routine.{Routine, size}
-use Rattle.cones.specs.Bits.{minus}
+use Rattle.cones.specs.Bits.{own_with}
 use Rattle.cones.specs.Tables.{share_cones, rand_cones, own_rands}
+use Rattle.cones.specs.declared.Cone.{Cone}
 
 -- three words of a set
-pub record Seen : Type 0 where
-  pub shares : ℕ
-  pub rands : ℕ
-  pub own : ℕ
+abbrev pub Seen : Type 0
+Seen = Cone
 
 -- a set with one wire more, by the wire's words
 unfoldable pub see : Seen → ℕ → ℕ → ℕ → Seen
-see z share rand own = record { shares = bit_or z.shares share; rands = bit_or z.rands rand; own = bit_or (minus z.own rand) (minus own z.rands) }
+see z share rand own = record { shares = bit_or z.shares share; rands = bit_or z.rands rand; own = own_with z.own z.rands rand own }
 
 abbrev pub unseen : Seen
 unseen = record { shares = 0; rands = 0; own = 0 }

@@ -1,12 +1,14 @@
 -- The bits of words: of sums, cuts and single bits, and how many ones a part has.
 use Rattle.std.specs.Prelude.{◌≡◌, refl, Bool, true, false, not, ◌&&◌, ◌||◌, ◌≢◌, ℕ, zero, suc, ◌+◌, ◌-◌, ◌*◌, ◌/◌, ◌%◌, ◌^◌, ◌≤◌, ◌<◌, eqb}
-use Rattle.std.proofs.Common.{sym, ap, ap₂, ◌∙◌, one-mul, mod-lt, mod-eq_of_lt, arith, lit<, pow_pos, pow-add, shl_exact, shr-shr}
+use Rattle.std.proofs.Common.{w64, sym, ap, ap₂, ◌∙◌, one-mul, mod-lt, mod-eq_of_lt, arith, lit<, pow_pos, pow-add, shl_exact, shr-shr}
 use Rattle.std.proofs.Math.Nat.{div_self, div-eq_of_lt}
 use Rattle.std.proofs.Math.Decide.{dec_le}
 use Rattle.std.proofs.Math.Arith.{bin_ind}
 use Rattle.std.specs.Int.Bits.{bit_and, bit_or, bit_xor, shifted_even}
 use Rattle.std.proofs.lemmas.Nat.{and_shr, or_shr, xor_shr, and_mod, or_mod, xor_mod, shl-shr, mod-pow-add}
 use Rattle.std.specs.Int.Count.{ones}
+use Rattle.std.proofs.lemmas.Nat.{and_le_l, xor_lt}
+use Rattle.std.proofs.lemmas.Nat.Bits.{bit_at_and, bit_at_xor, bit_at_not, bit_at-lt, same_from_bits_below}
 use Rattle.std.proofs.Math.Pow.{pow-lt}
 use Rattle.data.specs.Basics.{one, tally}
 use Rattle.document.specs.Padding.{word}
@@ -131,3 +133,15 @@ ones_has k d m x h = ap (λ (z : ℕ). ones (z / 2 ^ k % 2 ^ d)) (sym (word_has 
 -- the word with bit k alone, as the code shifts it
 pub one_shifted : (k : ℕ) → k < 64 → (1 * 2 ^ k) % 2 ^ 64 ≡ 2 ^ k
 one_shifted k h = shl_exact {a = 1} 1 k 64 (lit< tt) (omega arith) ∙ one-mul (2 ^ k)
+
+-- the bits of x that are not in y, as the code masks them
+pub minus_masked : (x y : ℕ) → x < 2 ^ 64 → y < 2 ^ 64 → bit_and x (2 ^ 64 - 1 - y) ≡ minus x y
+unfolding minus
+minus_masked x y h k = same_from_bits_below 64 _ _ (let a = and_le_l x (2 ^ 64 - 1 - y) in omega arith) (xor_lt 64 x (bit_and x y) h (let a = and_le_l x y in omega arith)) (λ i l.
+    let a = bit_at_and x (2 ^ 64 - 1 - y) i in
+    let n = bit_at_not w64 y i k l in
+    let b = bit_at_xor x (bit_and x y) i in
+    let c = bit_at_and x y i in
+    let p = bit_at-lt x i in
+    let q = bit_at-lt y i in
+    omega arith)

@@ -1,8 +1,7 @@
 -- `cones::without` meets its contract.
-use mathlib.Core.Path.{refl}
-use Rattle.cones.specs.Bits.{minus}
+use native.Mathlib.Omega.{arith}
+use Rattle.cones.proofs.Laws.Bits.{minus_masked}
 use Rattle.cones.proofs.without.Goals as goal
 
 pub returns : goal.returns
-unfolding minus
-returns c = refl
+returns c = minus_masked c.args.x c.args.y (omega arith) (omega arith)
