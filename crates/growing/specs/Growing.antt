@@ -1,6 +1,5 @@
 -- One set of a judgement: what it is grown from, what is seen of it, and what became of it.
-use Rattle.std.specs.Prelude.{◌≡◌, Bool, true, false, not, cond, ◌≢◌, List, [], ◌∷◌, ◌++◌, ℕ, ◌+◌, ◌≤◌, ◌<◌, length, get_or}
-use Rattle.std.specs.Int.Bits.{bit_or}
+use Rattle.std.specs.Prelude.{◌≡◌, Bool, true, false, not, cond, ◌≢◌, List, [], ◌∷◌, ◌++◌, ℕ, ◌+◌, ◌≤◌, ◌<◌, length, get_or, Result, Ok, Err}
 use Rattle.data.specs.Basics.{keep}
 use Rattle.document.specs.Routine.{Routine, size, records_fit}
 use Rattle.data.specs.ProbeSets.{held, empty_set, set_of, Asc}
@@ -8,8 +7,9 @@ use Rattle.document.specs.Judgements.{is_open, judgement_of}
 use Rattle.data.specs.declared.ProbeSet.{ProbeSet}
 use Rattle.data.specs.declared.Wire.{Wire}
 use Rattle.counts.specs.Counting.{record_at}
-use Rattle.cones.specs.Bits.{minus}
-use Rattle.cones.specs.Seen.{Seen, see_all, unseen}
+use Rattle.cones.specs.declared.Cone.{Cone}
+use Rattle.cones.specs.Bits.{own_with}
+use Rattle.cones.specs.Seen.{Seen, see, see_all, unseen}
 use Rattle.data.specs.declared.Which.{Which}
 use Rattle.data.specs.declared.Which.TheVariants.{Plain, Strong}
 use Rattle.growing.specs.declared.Question.{Question}
@@ -17,13 +17,17 @@ use Rattle.growing.specs.declared.Grown.{Grown}
 use Rattle.growing.specs.declared.Found.{Found}
 use Rattle.document.specs.Reading.{routine_in}
 
+-- what a search comes to: the count of the sets judged where none was open, or the open set that it found
+abbrev pub Outcome : Type 0
+Outcome = Result ℕ Found
+
 -- nothing found, k sets judged
-abbrev pub none : ℕ → Found
-none k = record { hit = false; count = k; set = empty_set }
+abbrev pub none : ℕ → Outcome
+none k = Ok k
 
 -- this set found, as the k-th judged
-abbrev pub found : ℕ → List ℕ → Found
-found k ps = record { hit = true; count = k; set = set_of ps }
+abbrev pub found : ℕ → List ℕ → Outcome
+found k ps = Err (record { count = k; set = set_of ps })
 
 -- the routine in question
 abbrev pub routine_asked : Question → Routine
@@ -39,34 +43,28 @@ Fits q = records_fit q.listing.shape q.listing.wires ≡ true
 
 -- the words of a growing set
 abbrev pub seen_of : Grown → Seen
-seen_of g = record { shares = g.shares; rands = g.rands; own = g.own }
+seen_of g = g.cone
 
 -- no wire yet
 abbrev pub nothing_grown : Grown
-nothing_grown = record { set = empty_set; shares = 0; rands = 0; own = 0 }
+nothing_grown = record { set = empty_set; cone = unseen }
 
--- the own randoms of a set with a wire more
-abbrev pub own_with : ℕ → ℕ → ℕ → ℕ → ℕ
-own_with own rands rand mine = bit_or (minus own rand) (minus mine rands)
+-- with wire w, whose cone is given
+unfoldable pub grown_by : Grown → ℕ → Cone → Grown
+grown_by g w cone = record { set = set_of (held g.set ++ (w ∷ [])); cone = see g.cone cone.shares cone.rands cone.own }
 
--- with wire w, whose words are given
-unfoldable pub grown_by : Grown → ℕ → ℕ → ℕ → ℕ → Grown
-grown_by g w share rand own =
-    record {
-      set = set_of (held g.set ++ (w ∷ []));
-      shares = bit_or g.shares share;
-      rands = bit_or g.rands rand;
-      own = own_with g.own g.rands rand own;
-    }
+-- the own randoms of two cones together
+abbrev pub own_of_both : Cone → Cone → ℕ
+own_of_both z c = own_with z.own z.rands c.rands c.own
 
 -- from `from` to r, where one place is left, each wire makes a set with an own random
-pub record Skipped (places from n : ℕ) (rands own : List ℕ) (owned seen r : ℕ) : Type 0 where
+pub record Skipped (places from n : ℕ) (cones : List Cone) (z : Cone) (r : ℕ) : Type 0 where
   pub since : from ≤ r
   pub until : r ≤ n
-  pub spared : (v : ℕ) → from ≤ v → v < r → (places ≡ 1) × (own_with owned seen (get_or rands v 0) (get_or own v 0) ≢ 0)
+  pub spared : (v : ℕ) → from ≤ v → v < r → (places ≡ 1) × (own_of_both z (get_or cones v unseen) ≢ 0)
 
 -- the set judged as one set more
-abbrev pub judged_set : (List ℕ → Bool) → List ℕ → ℕ → Found
+abbrev pub judged_set : (List ℕ → Bool) → List ℕ → ℕ → Outcome
 judged_set opens ps k = cond (opens ps) (found (k + 1) ps) (none (k + 1))
 
 -- no set of fewer than k wires is open

@@ -1,7 +1,6 @@
 -- Sets as they lie in their places, wires passed over, and the bound of a set.
 use Rattle.std.specs.Prelude.{◌≡◌, refl, Bool, true, false, not, cond, ◌≢◌, List, [], ◌∷◌, ◌++◌, ℕ, ◌+◌, ◌≤◌, ◌<◌, length, get_or, take, set}
 use Rattle.std.proofs.Common.{sym, ap, ap₂, ◌∙◌, subst, inl, inr, add-one, arith, take-suc}
-use Rattle.std.specs.Int.Bits.{bit_or}
 use Rattle.data.specs.Basics.{one, keep}
 use Rattle.document.specs.Routine.{routine_of}
 use Rattle.data.specs.ProbeSets.{held, set_of, Asc}
@@ -17,7 +16,9 @@ use Rattle.cones.proofs.Laws.Spared.{Steady, plain_steady, strong_steady}
 use Rattle.data.specs.declared.Which.{Which}
 use Rattle.data.specs.declared.Which.TheVariants.{Plain, Strong}
 use Rattle.growing.specs.declared.Grown.{Grown}
-use Rattle.growing.specs.Growing.{own_with, grown_by, Skipped, inner_of, bound_of}
+use Rattle.cones.specs.declared.Cone.{Cone}
+use Rattle.cones.specs.Seen.{see, unseen}
+use Rattle.growing.specs.Growing.{own_of_both, grown_by, Skipped, inner_of, bound_of}
 
 pub steady_of : (which : Which) → Steady (judgement_of which)
 steady_of Plain = plain_steady
@@ -56,24 +57,24 @@ with_last_lem s w h e =
     ∙ ap (λ (k : ℕ). record { places = set (set_of (held s)).places k w; len = k + 1 }) (sym l)
     ∙ last_of (held s) w (omega arith)
 
-pub grown_is : (g : Grown) (w share rand own x : ℕ) (s : ProbeSet) → s ≡ set_of (held g.set ++ (w ∷ [])) → x ≡ own_with g.own g.rands rand own
-    → record { set = s; shares = bit_or g.shares share; rands = bit_or g.rands rand; own = x } ≡ grown_by g w share rand own
+pub grown_is : (g : Grown) (w : ℕ) (cone c : Cone) (s : ProbeSet) → s ≡ set_of (held g.set ++ (w ∷ [])) → c ≡ see g.cone cone.shares cone.rands cone.own
+    → record { set = s; cone = c } ≡ grown_by g w cone
 unfolding grown_by
-grown_is g w share rand own x s e p = rw (e, p) refl
+grown_is g w cone c s e p = rw (e, p) refl
 
 -- a wire more that is passed over
-pub skipped_more : (places from n : ℕ) (rands own : List ℕ) (owned seen w : ℕ) → w < n → places ≡ 1 → Skipped places from n rands own owned seen w
-    → own_with owned seen (get_or rands w 0) (get_or own w 0) ≢ 0 → Skipped places from n rands own owned seen (w + 1)
-skipped_more places from n rands own owned seen w h e k o = let z = k.since in record {
+pub skipped_more : (places from n : ℕ) (cones : List Cone) (z : Cone) (w : ℕ) → w < n → places ≡ 1 → Skipped places from n cones z w
+    → own_of_both z (get_or cones w unseen) ≢ 0 → Skipped places from n cones z (w + 1)
+skipped_more places from n cones z w h e k o = let s = k.since in record {
   since = omega arith;
   until = omega arith;
   spared = λ v l m. wire_cases v w
-      (λ q. (e, subst (λ (u : ℕ). own_with owned seen (get_or rands u 0) (get_or own u 0) ≢ 0) (sym q) o))
+      (λ q. (e, subst (λ (u : ℕ). own_of_both z (get_or cones u unseen) ≢ 0) (sym q) o))
       (λ q. k.spared v l (omega arith));
 }
 
-pub skipped_none : (places from n : ℕ) (rands own : List ℕ) (owned seen : ℕ) → from ≤ n → Skipped places from n rands own owned seen from
-skipped_none places from n rands own owned seen h = record { since = omega arith; until = h; spared = λ v l m. absurd (omega arith) }
+pub skipped_none : (places from n : ℕ) (cones : List Cone) (z : Cone) → from ≤ n → Skipped places from n cones z from
+skipped_none places from n cones z h = record { since = omega arith; until = h; spared = λ v l m. absurd (omega arith) }
 
 -- ---- the probed wires that are no outputs
 
