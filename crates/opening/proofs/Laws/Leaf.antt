@@ -87,18 +87,18 @@ module _ {q : Question} {g : Grown} (A : Asked q g) where
   pub low_probes : LowProbes g.set
   low_probes = let h = holding in record { at_most = h.four; low_at = λ v l. let a = h.wires v l in let b = h.few in omega arith }
 
-  pub own_open : g.own ≢ 0 → opens_in q ps ≡ false
+  pub own_open : g.cone.own ≢ 0 → opens_in q ps ≡ false
   own_open h = own_closed (judgement_of q.which) (steady_of q.which) R sound q.t ps ascends (seen_of g) sees h
       (λ qs a p l. A.smaller qs a p (let z = long in omega arith))
 
   bound_of_lem : (b : ℕ) → b ≡ bound_of q.which q.listing.wires q.t ps → b ≡ (judgement_of q.which).bound R q.t ps
   bound_of_lem b e = e ∙ bound_is q.which q.listing.shape q.listing.wires q.t ps A.grows.ascends
 
-  pub cones_open : (b : ℕ) → b ≡ bound_of q.which q.listing.wires q.t ps → g.shares < 2 ^ 64
-      → some_over q.listing.shape.s q.listing.shape.d g.shares b ≡ false → opens_in q ps ≡ false
+  pub cones_open : (b : ℕ) → b ≡ bound_of q.which q.listing.wires q.t ps → g.cone.shares < 2 ^ 64
+      → some_over q.listing.shape.s q.listing.shape.d g.cone.shares b ≡ false → opens_in q ps ≡ false
   unfolding some_over ones_of bits_of
   cones_open b e small o = cones_closed (judgement_of q.which) (steady_of q.which) R sound q.t ps ascends (seen_of g) sees small
-      (λ i i<S. let z = ltb_false b (ones (g.shares / 2 ^ (i * q.listing.shape.d) % 2 ^ q.listing.shape.d))
+      (λ i i<S. let z = ltb_false b (ones (g.cone.shares / 2 ^ (i * q.listing.shape.d) % 2 ^ q.listing.shape.d))
       (some_none q.listing.shape.s _ o i i<S) in let y = bound_of_lem b e in omega arith)
 
   pub run_open : (b word : ℕ) (probe : Marks) → b ≡ bound_of q.which q.listing.wires q.t ps → probe ≡ probed ps → word ≡ needed_by R probe

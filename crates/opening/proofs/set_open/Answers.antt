@@ -15,12 +15,11 @@ pub over-requires : goal.over-requires
 over-requires c = shares_of _ _ c.requires.fits
 
 pub returns-then-not-over : goal.returns-then-not-over
-returns-then-not-over c = let k = c.struct_known-1.given in
-    sym (cones_open c.requires _ c.bound_of-bound.ensures (omega arith)
+returns-then-not-over c = sym (cones_open c.requires _ c.bound_of-bound.ensures (omega arith)
     (sym c.over.ensures ∙ c.if-not-over.true))
 
-pub probe_marks-probe-requires : goal.probe_marks-probe-requires
-probe_marks-probe-requires c = low_probes c.requires
+pub probe_marks-requires : goal.probe_marks-requires
+probe_marks-requires c = low_probes c.requires
 
 pub needed_word-needed-requires : goal.needed_word-needed-requires
 needed_word-needed-requires c = (
@@ -33,4 +32,4 @@ over-requires-2 c = shares_of _ _ c.requires.fits
 
 pub returns : goal.returns
 returns c = c.over-2.ensures ∙ run_open c.requires _ _ _
-    c.bound_of-bound.ensures c.probe_marks-probe.ensures c.needed_word-needed.ensures
+    c.bound_of-bound.ensures c.probe_marks.ensures c.needed_word-needed.ensures
