@@ -7,62 +7,43 @@ ghost use Rattle.cones.specs.Making.{TablesOf};
 ghost use Rattle.growing.specs.Growing.{opens_in, Fits};
 ghost use Rattle.searching.specs.Search.{grow, found_up_to, Searching};
 
+use cones::Cone;
 use growing::{Found, Grown, Question};
 
-// The first open set among those that grow from g by `places` of the wires from `from` on.
+// The first open set among those that grow from g by `places` of the wires from `from` on, or the count of the sets judged.
 fn grow(
     q: Question,
     g: Grown,
     places: usize,
     from: usize,
     count: u64,
-    shares: &[u64; 128],
-    rands: &[u64; 128],
-    own: &[u64; 128],
-) -> Found
-    requires { Searching q shares.now rands.now own.now places from g count }
+    cones: &[Cone],
+) -> Result<u64, Found>
+    requires { Searching q cones.now places from g count }
     ensures { result ≡ grow (opens_in q) places (q.listing.shape.n - from) from (held g.set) count }
 {
     if places == 0 {
         return opening::judge_set(q, g, count);
     }
     let n = q.listing.shape.n;
-    let at = growing::next_wire(g, places, from, n, rands, own);
-    let judged = count + (at - from) as u64;
+    let at = g.next_wire(places, from, n, cones);
+    let passed = count + (at - from) as u64;
     if n <= at {
-        return growing::nothing_found(judged);
+        return Ok(passed);
     }
-    let fewer = places - 1;
-    let next = at + 1;
-    let more = growing::grown_by(g, at, shares[at], rands[at], own[at]);
-    let found = grow(q, more, fewer, next, judged, shares, rands, own);
-    if found.hit {
-        return found;
-    }
-    grow(q, g, places, next, found.count, shares, rands, own)
+    let more = g.with(at, cones[at]);
+    let judged = grow(q, more, places - 1, at + 1, passed, cones)?;
+    grow(q, g, places, at + 1, judged, cones)
 }
 
 // What is found among the sets of 1 to `top` wires, size after size.
-pub fn search_sizes(
-    q: Question,
-    top: usize,
-    shares: &[u64; 128],
-    rands: &[u64; 128],
-    own: &[u64; 128],
-) -> Found
-    requires { (top ≤ 4) × Fits q × TablesOf q.listing.shape q.listing.wires shares.now rands.now own.now }
+pub fn search_sizes(q: Question, top: usize, cones: &[Cone]) -> Result<u64, Found>
+    requires { (top ≤ 4) × Fits q × TablesOf q.listing.shape q.listing.wires cones.now }
     ensures { result ≡ found_up_to (opens_in q) top q.listing.shape.n }
 {
-    let mut found = growing::nothing_found(0);
-    let mut size = 0;
-    while size < top {
-        let nothing = growing::nothing_grown();
-        let next = grow(q, nothing, size + 1, 0, found.count, shares, rands, own);
-        if next.hit {
-            return next;
-        }
-        found = next;
-        size += 1;
+    let mut count = 0;
+    for size in 0..top {
+        count = grow(q, Grown::nothing(), size + 1, 0, count, cones)?;
     }
-    found
+    Ok(count)
 }

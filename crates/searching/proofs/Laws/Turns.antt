@@ -1,7 +1,7 @@
 -- A turn of the search: a set that is grown stays one to be grown, with a wire more or a wire passed over, and the search is that of its two parts.
-use Rattle.std.specs.Prelude.{◌≡◌, Bool, get_or, take}
-use Rattle.std.proofs.Math.Path.{refl, sym, ap, ap₂}
-use Rattle.std.proofs.Common.{◌∙◌, subst, lt_irrefl, mul-suc, mul-le-mul_left, mul-le-mul_right, sub-one, get_or-take}
+use Rattle.std.specs.Prelude.{◌≡◌, Bool, get_or, Ok, Err}
+use Rattle.std.proofs.Math.Path.{refl, sym, ap}
+use Rattle.std.proofs.Common.{◌∙◌, subst, lt_irrefl, mul-suc, mul-le-mul_left, mul-le-mul_right, sub-one}
 use Rattle.std.proofs.Math.Bool.{true, false, cond}
 use mathlib.Core.List.{List, [], ◌∷◌, ◌++◌, map}
 use Prim.Native.Nat.{ℕ, zero, suc, ◌+◌, ◌-◌, ◌*◌, ◌^◌, ◌≤◌, ◌<◌}
@@ -13,13 +13,13 @@ use Rattle.document.specs.Routine.{Routine, size}
 use Rattle.data.specs.ProbeSets.{held, set_of, Asc}
 use Rattle.document.specs.Judgements.{sets_of}
 use Rattle.records.proofs.Laws.Fitting.{fit_of}
-use Rattle.cones.specs.Tables.{share_cones, rand_cones, own_rands}
+use Rattle.cones.specs.declared.Cone.{Cone}
 use Rattle.cones.specs.Seen.{Seen, see, see_wire, see_all, unseen}
 use Rattle.cones.proofs.Laws.Seen.{see_more}
 use Rattle.growing.specs.declared.Question.{Question}
 use Rattle.growing.specs.declared.Found.{Found}
 use Rattle.growing.specs.declared.Grown.{Grown}
-use Rattle.growing.specs.Growing.{none, found, routine_asked, seen_of, grown_by, judged_set, Asked}
+use Rattle.growing.specs.Growing.{Outcome, none, found, routine_asked, seen_of, grown_by, judged_set, Asked}
 use Rattle.searching.specs.Search.{search, on_from, grow, Searching}
 use Rattle.searching.proofs.Laws.Search.{grow_is}
 use Rattle.growing.proofs.Laws.Growing.{held_of, held_length}
@@ -57,38 +57,32 @@ module _ (opens : List ℕ → Bool) where
   grow_on (suc p) n f s k h l = let e : n - f ≡ suc (n - (f + 1)) = omega arith in rw (e, add-one, sub-one) refl
 
   -- found with the next wire
-  pub grow_hit : (p n f : ℕ) (s : List ℕ) (k : ℕ) → 0 < p → f < n → (x : Found) → x ≡ grow opens (p - 1) (n - (f + 1)) (f + 1) (s ++ (f ∷ [])) k → x.hit ≡ true
-      → x ≡ grow opens p (n - f) f s k
+  pub grow_hit : (p n f : ℕ) (s : List ℕ) (k : ℕ) → 0 < p → f < n → (o : Found) → Err o ≡ grow opens (p - 1) (n - (f + 1)) (f + 1) (s ++ (f ∷ [])) k
+      → Err o ≡ grow opens p (n - f) f s k
   unfolding on_from
-  grow_hit p n f s k h l x e t =
-      sym (ap (λ (b : Bool). cond b x (grow opens p (n - (f + 1)) (f + 1) s x.count)) t)
-      ∙ ap (λ (y : Found). on_from y (λ j. grow opens p (n - (f + 1)) (f + 1) s j)) e ∙ sym (grow_on p n f s k h l)
+  grow_hit p n f s k h l o e = ap (λ (y : Outcome). on_from y (λ j. grow opens p (n - (f + 1)) (f + 1) s j)) e ∙ sym (grow_on p n f s k h l)
 
   -- not found with the next wire
-  pub grow_miss : (p n f : ℕ) (s : List ℕ) (k : ℕ) → 0 < p → f < n → (x y : Found) → x ≡ grow opens (p - 1) (n - (f + 1)) (f + 1) (s ++ (f ∷ [])) k
-      → x.hit ≡ false
-      → y ≡ grow opens p (n - (f + 1)) (f + 1) s x.count → y ≡ grow opens p (n - f) f s k
+  pub grow_miss : (p n f : ℕ) (s : List ℕ) (k : ℕ) → 0 < p → f < n → (c : ℕ) (y : Outcome) → Ok c ≡ grow opens (p - 1) (n - (f + 1)) (f + 1) (s ++ (f ∷ [])) k
+      → y ≡ grow opens p (n - (f + 1)) (f + 1) s c → y ≡ grow opens p (n - f) f s k
   unfolding on_from
-  grow_miss p n f s k h l x y e t q =
-      q ∙ sym (ap (λ (b : Bool). cond b x (grow opens p (n - (f + 1)) (f + 1) s x.count)) t)
-      ∙ ap (λ (z : Found). on_from z (λ j. grow opens p (n - (f + 1)) (f + 1) s j)) e ∙ sym (grow_on p n f s k h l)
+  grow_miss p n f s k h l c y e q = q ∙ ap (λ (z : Outcome). on_from z (λ j. grow opens p (n - (f + 1)) (f + 1) s j)) e ∙ sym (grow_on p n f s k h l)
 
-  search_count : (k : ℕ) (ss : List (List ℕ)) → (search opens k ss).count ≤ k + length ss
+  -- where none is open, all are judged
+  pub search_all : (k : ℕ) (ss : List (List ℕ)) (c : ℕ) → search opens k ss ≡ Ok c → c ≡ k + length ss
   unfolding search
-  search_count k [] = omega arith
-  search_count k (ps ∷ later) = go (opens ps) (search_count (suc k) later)
+  search_all k [] c e = let z : k ≡ c = cc in omega arith
+  search_all k (s ∷ ss) c e = go (opens s) e (search_all (suc k) ss c)
     where
-      go : (b : Bool) → (search opens (suc k) later).count ≤ suc k + length later
-          → (cond b (found (suc k) ps) (search opens (suc k) later)).count ≤ k + length (ps ∷ later)
-      go true h = omega arith
-      go false h = omega arith
+      go : (b : Bool) → cond b (found (suc k) s) (search opens (suc k) ss) ≡ Ok c → (search opens (suc k) ss ≡ Ok c → c ≡ suc k + length ss)
+          → c ≡ k + length (s ∷ ss)
+      go true f rest = let z : ⊥ = cc in absurd z
+      go false f rest = let z = rest f in omega arith
 
-  -- the sets judged are no more than there are
-  pub grow_count : (p m lo : ℕ) (s : List ℕ) (k : ℕ) → (grow opens p m lo s k).count ≤ k + length (sets_of p m lo)
-  grow_count p m lo s k =
-      let a = search_count k (map (λ r. s ++ r) (sets_of p m lo)) in
-      let b = ap (λ (x : Found). x.count) (grow_is opens p m lo s k) in
-      let c = length-map (sets_of p m lo) (λ r. s ++ r) in
+  pub grow_count : (p m lo : ℕ) (s : List ℕ) (k c : ℕ) → grow opens p m lo s k ≡ Ok c → c ≡ k + length (sets_of p m lo)
+  grow_count p m lo s k c e =
+      let a = search_all k (map (λ r. s ++ r) (sets_of p m lo)) c (sym (grow_is opens p m lo s k) ∙ e) in
+      let b = length-map (sets_of p m lo) (λ r. s ++ r) in
       omega arith
 
 pub sets_leaf : (p m lo : ℕ) → p ≡ 0 → length (sets_of p m lo) ≡ 1
@@ -115,7 +109,7 @@ asc_last lo k (p ∷ ps) h a = let z = a.1 in (a.0, omega arith, asc_last (suc p
 
 -- ---- a set to be grown
 
-module _ {q : Question} {shares rands own : List ℕ} {places from : ℕ} {g : Grown} {count : ℕ} (S : Searching q shares rands own places from g count) where
+module _ {q : Question} {cones : List Cone} {places from : ℕ} {g : Grown} {count : ℕ} (S : Searching q cones places from g count) where
   abbrev R : Routine
   R = routine_asked q
 
@@ -144,57 +138,47 @@ module _ {q : Question} {shares rands own : List ℕ} {places from : ℕ} {g : G
   pub leaf_counted : places ≡ 0 → count + 1 < 2 ^ 63
   leaf_counted e = let a = sets_leaf places (n - from) from e in let b = S.counted in omega arith
 
-  -- the words of the next wire are the tables'
-  table_at : (words : List ℕ) (cones : ℕ → List ℕ) → take n words ≡ cones n → from < n → get_or words from 0 ≡ get_or (cones (size R)) from 0
-  table_at words cones e h = sym (get_or-take n words from 0 h) ∙ ap (λ (l : List ℕ). get_or l from 0) e ∙ ap (λ (k : ℕ). get_or (cones k) from 0) (sym sized)
-
-  pub held_grown : 0 < places → (share rand o : ℕ) → held (grown_by g from share rand o).set ≡ held g.set ++ (from ∷ [])
+  pub held_grown : 0 < places → (cone : Cone) → held (grown_by g from cone).set ≡ held g.set ++ (from ∷ [])
   unfolding grown_by
-  held_grown h share rand o =
+  held_grown h cone =
       let l = held_length g.set S.grows.whole in
       let r = S.room in
       let a = length-append (held g.set) (from ∷ []) in
       held_of (held g.set ++ (from ∷ [])) (omega arith)
 
-  seen_grown : from < n → (share rand o : ℕ) → share ≡ get_or shares from 0 → rand ≡ get_or rands from 0 → o ≡ get_or own from 0
-      → seen_of (grown_by g from share rand o) ≡ see_all R unseen (held g.set ++ (from ∷ []))
-  unfolding grown_by see see_wire
-  seen_grown h share rand o p r m =
-      ap₂ (λ (x y : ℕ). see (seen_of g) x y o) (p ∙ table_at shares (share_cones R) S.tables.shares_are h) (r
-      ∙ table_at rands (rand_cones R) S.tables.rands_are h)
-      ∙ ap (λ (x : ℕ). see (seen_of g) (get_or (share_cones R (size R)) from 0) (get_or (rand_cones R (size R)) from 0) x) (m
-      ∙ table_at own (own_rands R) S.tables.own_are h)
-      ∙ ap (λ (z : Seen). see_wire R z from) S.grows.seen
+  seen_grown : from < n → seen_of (grown_by g from (get_or cones from unseen)) ≡ see_all R unseen (held g.set ++ (from ∷ []))
+  unfolding grown_by see_wire
+  seen_grown h =
+      ap (λ (c : Cone). see (seen_of g) c.shares c.rands c.own) (S.tables.each from h) ∙ ap (λ (z : Seen). see_wire R z from) S.grows.seen
       ∙ sym (see_more R unseen (held g.set) from)
 
-  grown_len : (share rand o : ℕ) → (grown_by g from share rand o).set.len ≡ g.set.len + 1
+  grown_len : (cone : Cone) → (grown_by g from cone).set.len ≡ g.set.len + 1
   unfolding grown_by set_of
-  grown_len share rand o = let l = held_length g.set S.grows.whole in let a = length-append (held g.set) (from ∷ []) in omega arith
+  grown_len cone = let l = held_length g.set S.grows.whole in let a = length-append (held g.set) (from ∷ []) in omega arith
 
-  grown_whole : 0 < places → (share rand o : ℕ) → (grown_by g from share rand o).set ≡ set_of (held (grown_by g from share rand o).set)
+  grown_whole : 0 < places → (cone : Cone) → (grown_by g from cone).set ≡ set_of (held (grown_by g from cone).set)
   unfolding grown_by
-  grown_whole h share rand o = sym (ap set_of (held_grown h share rand o))
+  grown_whole h cone = sym (ap set_of (held_grown h cone))
 
   -- with the next wire
-  pub taken_next : 0 < places → from < n → (share rand o : ℕ) → share ≡ get_or shares from 0 → rand ≡ get_or rands from 0 → o ≡ get_or own from 0 → (more : Grown)
-      → more ≡ grown_by g from share rand o
-      → Searching q shares rands own (places - 1) (from + 1) more count
-  taken_next h l share rand o p r m more e =
-      let len = grown_len share rand o in
+  pub taken_next : 0 < places → from < n → (more : Grown) → more ≡ grown_by g from (get_or cones from unseen) → Searching q cones (places - 1) (from + 1) more count
+  taken_next h l more e =
+      let cone = get_or cones from unseen in
+      let len = grown_len cone in
       let room = S.room in
       let counted = S.counted in
       let on = sets_on places n from h l in
-      let hg = held_grown h share rand o in
-      subst (λ (x : Grown). Searching q shares rands own (places - 1) (from + 1) x count) (sym e) (record {
+      let hg = held_grown h cone in
+      subst (λ (x : Grown). Searching q cones (places - 1) (from + 1) x count) (sym e) (record {
         fits = S.fits;
         tables = S.tables;
         below = omega arith;
         room = omega arith;
         grows = record {
-          whole = grown_whole h share rand o;
+          whole = grown_whole h cone;
           few = omega arith;
           ascends = subst (λ (ps : List ℕ). Asc 0 (from + 1) ps) (sym hg) (asc_last 0 from (held g.set) (omega arith) S.grows.ascends);
-          seen = seen_grown l share rand o p r m ∙ ap (λ (ps : List ℕ). see_all R unseen ps) (sym hg);
+          seen = seen_grown l ∙ ap (λ (ps : List ℕ). see_all R unseen ps) (sym hg);
         };
         smaller = λ qs a b c. S.smaller qs a b (omega arith);
         counted = omega arith;
@@ -202,7 +186,7 @@ module _ {q : Question} {shares rands own : List ℕ} {places from : ℕ} {g : G
 
   -- with the next wire passed over
   pub passed_over : 0 < places → from < n → (k : ℕ) → k ≤ count + length (sets_of (places - 1) (n - (from + 1)) (from + 1))
-      → Searching q shares rands own places (from + 1) g k
+      → Searching q cones places (from + 1) g k
   passed_over h l k c =
       let counted = S.counted in
       let on = sets_on places n from h l in
