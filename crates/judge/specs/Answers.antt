@@ -1,9 +1,11 @@
 -- The answer that what is found makes.
-use Rattle.std.specs.Prelude.{cond}
+use Rattle.std.specs.Prelude.{Ok, Err}
+use Rattle.data.specs.ProbeSets.{empty_set}
 use Rattle.data.specs.declared.Verdict.TheVariants as Says
 use Rattle.data.specs.declared.Judged.{Judged}
-use Rattle.growing.specs.declared.Found.{Found}
+use Rattle.growing.specs.Growing.{Outcome}
 
 -- open with the count and the set where one was found, and else a pass
-unfoldable pub answer_of : Found → Judged
-answer_of f = record { verdict = cond f.hit (Says.Open f.count) (Says.Pass f.count); set = f.set }
+unfoldable pub answer_of : Outcome → Judged
+answer_of (Ok k) = record { verdict = Says.Pass k; set = empty_set }
+answer_of (Err f) = record { verdict = Says.Open f.count; set = f.set }

@@ -12,42 +12,36 @@ use data::{Judged, Listing, ProbeSet, Refusal, Verdict, Which};
 use growing::{Found, Question};
 
 // What is found among the sets of 1 to t wires.
-fn searched(q: Question) -> Found
+fn searched(q: Question) -> Result<u64, Found>
     requires { (q.t ≤ 4) × Fits q }
     ensures { result ≡ found_up_to (opens_in q) q.t q.listing.shape.n }
 {
-    let listing = q.listing;
-    let tables = cones::tables_of(listing);
-    let shares = tables.shares;
-    let rands = tables.rands;
-    let own = tables.own;
-    searching::search_sizes(q, q.t, &shares, &rands, &own)
+    let cones = cones::cones_of(q.listing);
+    searching::search_sizes(q, q.t, &cones)
 }
 
-fn answer_of(found: Found) -> Judged
+#[tactic(auto, unfolding(crate::specs::Answers::answer_of))]
+fn answer_of(found: Result<u64, Found>) -> Judged
     ensures { result ≡ answer_of found }
 {
-    let set = found.set;
-    let count = found.count;
-    if found.hit {
-        return Judged {
+    match found {
+        Ok(count) => Judged {
+            verdict: Verdict::Pass(count),
+            set: ProbeSet::empty(),
+        },
+        Err(Found { count, set }) => Judged {
             verdict: Verdict::Open(count),
             set,
-        };
-    }
-    Judged {
-        verdict: Verdict::Pass(count),
-        set,
+        },
     }
 }
 
 fn refusal(f: Refusal) -> Judged
     ensures { result ≡ judged_not f }
 {
-    let set = ProbeSet::empty();
     Judged {
         verdict: Verdict::Refused(f),
-        set,
+        set: ProbeSet::empty(),
     }
 }
 
@@ -61,6 +55,5 @@ pub fn judge(listing: Listing, which: Which, t: usize) -> Judged
     if !asking::order_fits(listing.shape.d, t) {
         return refusal(Refusal::Order);
     }
-    let q = Question { which, listing, t };
-    answer_of(searched(q))
+    answer_of(searched(Question { which, listing, t }))
 }
