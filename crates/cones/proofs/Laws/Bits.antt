@@ -1,6 +1,6 @@
 -- The bits of words: of sums, cuts and single bits, and how many ones a part has.
 use Rattle.std.specs.Prelude.{◌≡◌, refl, Bool, true, false, not, ◌&&◌, ◌||◌, ◌≢◌, ℕ, zero, suc, ◌+◌, ◌-◌, ◌*◌, ◌/◌, ◌%◌, ◌^◌, ◌≤◌, ◌<◌, eqb}
-use Rattle.std.proofs.Common.{w64, sym, ap, ap₂, ◌∙◌, one-mul, mod-lt, mod-eq_of_lt, arith, lit<, pow_pos, pow-add, shl_exact, shr-shr}
+use Rattle.std.proofs.Common.{w64, sym, ap, ap₂, ◌∙◌, one-mul, mod-lt, mod-eq_of_lt, arith, lit<, pow_pos, pow-add, shr-shr}
 use Rattle.std.proofs.Math.Nat.{div_self, div-eq_of_lt}
 use Rattle.std.proofs.Math.Decide.{dec_le}
 use Rattle.std.proofs.Math.Arith.{bin_ind}
@@ -129,10 +129,6 @@ word_has (suc m) x = ap₂ (λ (a b : ℕ). a * 2 ^ m + b) (bit_is x m) (word_ha
 -- the ones of the d bits from k on, of a word below 2 ^ m
 pub ones_has : (k d m x : ℕ) → x < 2 ^ (k + d + m) → ones (x / 2 ^ k % 2 ^ d) ≡ tally d (λ j. has x (k + j))
 ones_has k d m x h = ap (λ (z : ℕ). ones (z / 2 ^ k % 2 ^ d)) (sym (word_has (k + d + m) x ∙ mod-eq_of_lt h)) ∙ ones_part k d m (has x)
-
--- the word with bit k alone, as the code shifts it
-pub one_shifted : (k : ℕ) → k < 64 → (1 * 2 ^ k) % 2 ^ 64 ≡ 2 ^ k
-one_shifted k h = shl_exact {a = 1} 1 k 64 (lit< tt) (omega arith) ∙ one-mul (2 ^ k)
 
 -- the bits of x that are not in y, as the code masks them
 pub minus_masked : (x y : ℕ) → x < 2 ^ 64 → y < 2 ^ 64 → bit_and x (2 ^ 64 - 1 - y) ≡ minus x y

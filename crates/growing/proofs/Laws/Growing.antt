@@ -1,11 +1,11 @@
 -- Sets as they lie in their places, wires passed over, and the bound of a set.
-use Rattle.std.specs.Prelude.{◌≡◌, refl, Bool, true, false, not, cond, ◌≢◌, List, [], ◌∷◌, ◌++◌, ℕ, ◌+◌, ◌≤◌, ◌<◌, length, get_or, take, set}
-use Rattle.std.proofs.Common.{sym, ap, ap₂, ◌∙◌, subst, inl, inr, add-one, arith, take-suc}
+use Rattle.std.specs.Prelude.{◌≡◌, refl, Bool, true, false, not, cond, List, [], ◌∷◌, ◌++◌, ℕ, ◌+◌, ◌≤◌, ◌<◌, length, get_or, take, set}
+use Rattle.std.proofs.Common.{sym, ap, ap₂, ◌∙◌, inl, inr, add-one, arith, take-suc}
 use Rattle.data.specs.Basics.{one, keep}
 use Rattle.document.specs.Routine.{routine_of}
 use Rattle.data.specs.ProbeSets.{held, set_of, Asc}
 use Rattle.document.specs.Judgements.{inner, judgement_of}
-use Rattle.data.proofs.Laws.Tests.{wire_cases, Mem}
+use Rattle.data.proofs.Laws.Tests.{Mem}
 use Rattle.document.proofs.Laws.Needed.{asc_low}
 use Rattle.data.specs.declared.ProbeSet.{ProbeSet}
 use Rattle.data.specs.declared.Wire.{Wire}
@@ -17,8 +17,8 @@ use Rattle.data.specs.declared.Which.{Which}
 use Rattle.data.specs.declared.Which.TheVariants.{Plain, Strong}
 use Rattle.growing.specs.declared.Grown.{Grown}
 use Rattle.cones.specs.declared.Cone.{Cone}
-use Rattle.cones.specs.Seen.{see, unseen}
-use Rattle.growing.specs.Growing.{own_of_both, grown_by, Skipped, inner_of, bound_of}
+use Rattle.cones.specs.Seen.{see}
+use Rattle.growing.specs.Growing.{grown_by, inner_of, bound_of}
 
 pub steady_of : (which : Which) → Steady (judgement_of which)
 steady_of Plain = plain_steady
@@ -61,20 +61,6 @@ pub grown_is : (g : Grown) (w : ℕ) (cone c : Cone) (s : ProbeSet) → s ≡ se
     → record { set = s; cone = c } ≡ grown_by g w cone
 unfolding grown_by
 grown_is g w cone c s e p = rw (e, p) refl
-
--- a wire more that is passed over
-pub skipped_more : (places from n : ℕ) (cones : List Cone) (z : Cone) (w : ℕ) → w < n → places ≡ 1 → Skipped places from n cones z w
-    → own_of_both z (get_or cones w unseen) ≢ 0 → Skipped places from n cones z (w + 1)
-skipped_more places from n cones z w h e k o = let s = k.since in record {
-  since = omega arith;
-  until = omega arith;
-  spared = λ v l m. wire_cases v w
-      (λ q. (e, subst (λ (u : ℕ). own_of_both z (get_or cones u unseen) ≢ 0) (sym q) o))
-      (λ q. k.spared v l (omega arith));
-}
-
-pub skipped_none : (places from n : ℕ) (cones : List Cone) (z : Cone) → from ≤ n → Skipped places from n cones z from
-skipped_none places from n cones z h = record { since = omega arith; until = h; spared = λ v l m. absurd (omega arith) }
 
 -- ---- the probed wires that are no outputs
 
