@@ -2,10 +2,11 @@
 #![tactic(auto)]
 
 ghost use Rattle.std.specs.Prelude.{◌≡◌, ◌-◌, ◌≤◌, min, length};
-ghost use Rattle.buffer.specs.Put.{Put};
+ghost use Rattle.buffer.specs.Sinks.{Puts, page_room};
 ghost use Rattle.document.specs.Desk.{text_lines};
 ghost use Rattle.report.specs.Reports.{report_room, Reported};
 
+use buffer::Page;
 use data::Read;
 
 // The bytes of a buffer for a report; 1,104 are the most that one has (report_room).
@@ -15,24 +16,17 @@ pub const ROOM: usize = 2048;
 fn orders(d: usize) -> usize
     ensures { result ≡ min 4 (d - 1) }
 {
-    if d < 1 {
-        return 0;
-    }
-    data::lower(4, d - 1)
+    d.saturating_sub(1).min(4)
 }
 
 // The lines of what was read, or of the refusal.
-fn put_read(got: Read, out: &mut [u8]) -> usize
-    requires { (got.outcome ≡ Ok tt → got.listing.shape.n ≤ length got.listing.wires) × (report_room ≤ length out.old) }
-    ensures { Put out.old 0 (text_lines got.outcome got) result out.new }
+fn put_read(got: Read, out: &mut Page)
+    requires { (got.outcome ≡ Ok tt → got.listing.shape.n ≤ length got.listing.wires) × (report_room ≤ page_room out.old) }
+    ensures { Puts out.old (text_lines got.outcome got) out.new }
 {
-    let outcome = got.outcome;
-    match outcome {
-        Ok(()) => {
-            let listing = got.listing;
-            answers::put_orders(listing, orders(listing.shape.d), out)
-        }
-        Err(f) => printer::put_refused(f, got.line, 0, out),
+    match got.outcome {
+        Ok(()) => answers::put_orders(got.listing, orders(got.listing.shape.d), out),
+        Err(f) => printer::put_refused(f, got.line, out),
     }
 }
 
@@ -40,6 +34,7 @@ fn put_read(got: Read, out: &mut [u8]) -> usize
 pub fn report(text: &[u8], out: &mut [u8; ROOM]) -> usize
     ensures { Reported text.now out.old result out.new }
 {
-    let got = reader::read(text);
-    put_read(got, out)
+    let mut page = Page { bytes: out, at: 0 };
+    put_read(reader::read(text), &mut page);
+    page.at
 }

@@ -1,5 +1,5 @@
 -- A routine's text in the order of the code: the first line, then the wires and the outputs, record by record.
-use Rattle.std.specs.Prelude.{List, [], ◌++◌, ℕ, zero, suc, ◌+◌, ◌-◌, ◌*◌}
+use Rattle.std.specs.Prelude.{List, [], ◌∷◌, ◌++◌, ℕ, zero, suc, ◌+◌, ◌-◌, ◌*◌}
 use Rattle.document.specs.Lines.{spelled}
 use Rattle.std.specs.Prelude.{Err}
 use Rattle.data.specs.declared.Refusal.{Refusal}
@@ -8,13 +8,13 @@ use Rattle.data.specs.declared.Wire.{Wire}
 use Rattle.data.specs.declared.Word.TheVariants as W
 use Rattle.data.specs.declared.Written.{Written}
 use Rattle.counts.specs.Counting.{record_at}
-use Rattle.pieces.specs.Pieces.{line2, piece}
+use Rattle.pieces.specs.Pieces.{line, piece}
 use Rattle.pieces.specs.declared.Part.{Part}
 use Rattle.pieces.specs.declared.Part.TheVariants.{Wires, Outputs}
 
 -- the first line
 abbrev pub head_line : ℕ → ℕ → List ℕ
-head_line s d = line2 (spelled W.Routine) s d
+head_line s d = line (spelled W.Routine) (s ∷ d ∷ [])
 
 -- what a part of the text has of the m wires from `first` on
 unfoldable pub section : Part → List Wire → ℕ → ℕ → List ℕ

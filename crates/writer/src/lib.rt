@@ -4,75 +4,33 @@
 ghost use Rattle.std.specs.Prelude.{◌≡◌, ◌+◌, ◌*◌, ◌≤◌, length};
 ghost use Rattle.document.specs.Lent.{WritesInto};
 ghost use Rattle.records.specs.Records.{Fit};
-ghost use Rattle.buffer.specs.Put.{Put};
 ghost use Rattle.writer.specs.Parts.{section, text_parts, written_not};
 
+use buffer::{Count, Page, Sink};
 use data::{Listing, Refusal, Shape, Wire, Written};
 use pieces::Part;
 
-// ---- the parts behind the first line
-
-// The length of what a part of the text has of the m wires from `first` on.
-fn section_length(p: Part, first: usize, m: usize, ws: [Wire; 128]) -> usize
-    requires { first + m ≤ 128 }
-    ensures { (result ≡ length (section p ws first m)) × (result ≤ 16 * m) }
-{
-    let mut len = 0;
-    let mut i = 0;
-    while i < m {
-        let w = first + i;
-        let x = ws[w];
-        let more = pieces::piece_length(p, w as u8, x);
-        len += more;
-        i += 1;
-    }
-    len
-}
-
 // What a part of the text has of the m wires from `first` on.
-fn put_section(p: Part, first: usize, m: usize, ws: [Wire; 128], at: usize, buf: &mut [u8]) -> usize
-    requires { (first + m ≤ 128) × (at + length (section p ws first m) ≤ length buf.old) }
-    ensures { Put buf.old at (section p ws first m) result buf.new }
+fn put_section<S: Sink>(p: Part, first: usize, m: usize, ws: [Wire; 128], out: &mut S)
+    requires { (first + m ≤ 128) × (length (section p ws first m) ≤ S.room out.old) }
+    ensures { S.puts out.old (section p ws first m) out.new }
 {
-    let mut o = at;
-    let mut i = 0;
-    while i < m {
+    for i in 0..m {
         let w = first + i;
-        let x = ws[w];
-        let next = pieces::put_piece(p, w as u8, x, o, buf);
-        o = next;
-        i += 1;
+        pieces::put_piece(p, w as u8, ws[w], out);
     }
-    o
-}
-
-// ---- the text
-
-// Its length, known before a byte is put: a text that does not fit leaves the buffer as it came.
-fn text_length(listing: Listing) -> usize
-    requires { Fit listing.shape listing.wires }
-    ensures { result ≡ length (text_parts listing.shape listing.wires) }
-{
-    let Shape { s, d, n } = listing.shape;
-    let ws = listing.wires;
-    let first = s * d;
-    let head = 10 + pieces::digit_count(s as u8) + pieces::digit_count(d as u8);
-    let wires = section_length(Part::Wires, first, n - first, ws);
-    let outs = section_length(Part::Outputs, 0, n, ws);
-    head + wires + outs
 }
 
 // The first line, the wires but the shares, and the outputs.
-fn put_text(listing: Listing, buf: &mut [u8]) -> usize
-    requires { Fit listing.shape listing.wires × (length (text_parts listing.shape listing.wires) ≤ length buf.old) }
-    ensures { Put buf.old 0 (text_parts listing.shape listing.wires) result buf.new }
+fn put_text<S: Sink>(listing: Listing, out: &mut S)
+    requires { Fit listing.shape listing.wires × (length (text_parts listing.shape listing.wires) ≤ S.room out.old) }
+    ensures { S.puts out.old (text_parts listing.shape listing.wires) out.new }
 {
     let Shape { s, d, n } = listing.shape;
-    let ws = listing.wires;
     let first = s * d;
-    let wires = pieces::put_line2(b"routine", s as u8, d as u8, 0, buf);
-    let outs = put_section(Part::Wires, first, n - first, ws, wires, buf);
-    put_section(Part::Outputs, 0, n, ws, outs, buf)
+    pieces::put_line(b"routine", &[s as u8, d as u8], out);
+    put_section(Part::Wires, first, n - first, listing.wires, out);
+    put_section(Part::Outputs, 0, n, listing.wires, out);
 }
 
 // A refused writing wrote nothing.
@@ -92,13 +50,16 @@ pub fn write(listing: Listing, buf: &mut [u8]) -> Written
     if !records::records_fit(listing) {
         return not_written(Refusal::Records);
     }
-    let len = text_length(listing);
-    if buf.len() < len {
+    // The length is known before a byte is put: a text that does not fit leaves the buffer as it came.
+    let mut count = Count { len: 0 };
+    put_text(listing, &mut count);
+    if buf.len() < count.len {
         return not_written(Refusal::Buffer);
     }
-    let end = put_text(listing, buf);
+    let mut page = Page { bytes: buf, at: 0 };
+    put_text(listing, &mut page);
     Written {
         outcome: Ok(()),
-        len: end,
+        len: page.at,
     }
 }

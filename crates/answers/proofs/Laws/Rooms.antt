@@ -10,7 +10,6 @@ use Rattle.data.specs.declared.Judged.{Judged}
 use Rattle.data.specs.declared.Refusal.TheVariants as No
 use Rattle.data.specs.declared.Which.{Which}
 use Rattle.data.specs.declared.Which.TheVariants.{Plain, Strong}
-use Rattle.buffer.specs.Put.{Put}
 use Rattle.printer.specs.Rooms.{answer_room}
 use Rattle.printer.proofs.Laws.Rooms.{answer_few}
 use Rattle.answers.specs.Orders.{judgement_line, order_pair, order_room}
@@ -38,10 +37,6 @@ pub line_few : (which : Which) (R : Routine) (t : ℕ) → length (judgement_lin
 unfolding judgement_line
 line_few Plain R t = answer_few plain_word t (judged (judgement_of Plain) R t) (omega arith) (judged_short (judgement_of Plain) R t)
 line_few Strong R t = answer_few strong_word t (judged (judgement_of Strong) R t) (omega arith) (judged_short (judgement_of Strong) R t)
-
--- where a line ends
-pub line_ends : {b c : List ℕ} {at r : ℕ} (which : Which) (R : Routine) (t : ℕ) → Put b at (judgement_line which R t) r c → r ≤ at + answer_room
-line_ends which R t put = omega (arith, put.next, line_few which R t)
 
 pair_few : (R : Routine) (t : ℕ) → length (order_pair R t) ≤ order_room
 unfolding order_pair

@@ -1,21 +1,18 @@
 -- `answers::put_judgement` meets its contract: what the judgement answers, behind its word.
-use Rattle.data.specs.declared.Which.TheVariants.{Plain, Strong}
-use Rattle.buffer.proofs.Laws.Puts.{put_same}
-use Rattle.answers.proofs.Laws.Orders.{line_is_judged}
+use Rattle.std.proofs.Common.{ap, ◌∙◌}
+use Rattle.document.specs.Desk.{answer_line}
+use Rattle.buffer.specs.Laws.{page_laws}
+use Rattle.buffer.proofs.Laws.Sinks.{puts_same}
+use Rattle.answers.proofs.Laws.Orders.{line_is_judged, word_few}
 use Rattle.answers.proofs.put_judgement.Goals as goal
 
-pub returns-in-Plain : goal.returns-in-Plain
-returns-in-Plain c = let s = c in
-    let a = s.args in
-    let w = c.judge-answer in
-    let told = c.in-Plain.is in
-    put_same c.put_answer.ensures
-    (line_is_judged a.which Plain a.listing.shape a.listing.wires a.t w.result s.requires.0 w.ensures told)
+pub put_answer-requires : goal.put_answer-requires
+put_answer-requires c = (rw c.word_of.ensures (word_few c.args.which), c.requires.1)
 
-pub returns-in-Strong : goal.returns-in-Strong
-returns-in-Strong c = let s = c in
-    let a = s.args in
+pub returns : goal.returns
+returns c =
+    let a = c.args in
     let w = c.judge-answer in
-    let told = c.in-Strong.is in
-    put_same c.put_answer-in-Strong.ensures
-    (line_is_judged a.which Strong a.listing.shape a.listing.wires a.t w.result s.requires.0 w.ensures told)
+    puts_same page_laws c.put_answer.ensures
+    (ap (λ v. answer_line v a.t w.result) c.word_of.ensures
+    ∙ line_is_judged a.which a.listing.shape a.listing.wires a.t w.result c.requires.0 w.ensures)

@@ -1,78 +1,47 @@
 -- `pieces::put_kind` meets its contract, kind by kind.
-use mathlib.Core.Path.{sym, ap, ◌∙◌}
-use native.Mathlib.Omega.{arith}
-use lib.ListN.{length}
-use Rattle.data.specs.declared.Word.TheVariants as W
-use Rattle.data.specs.declared.Kind.{Kind}
-use Rattle.document.specs.Lines.{spelled}
 use Rattle.pieces.specs.Pieces.{of_kind}
-use Rattle.pieces.proofs.Laws.Lengths.{line1_long, line2_long, line3_long}
-use Rattle.buffer.proofs.Laws.Puts.{put_none, put_same}
 use Rattle.pieces.proofs.put_kind.Goals as goal
 
-pub put_line1-requires : goal.put_line1-requires
+pub put_line-requires : goal.put_line-requires
 unfolding of_kind
-put_line1-requires c = let a = c.args in
-    let e = ap (λ (k : Kind). length (of_kind a.w k a.a a.b)) c.in-Rand.is ∙ line1_long (spelled W.Rand) a.w in
-    omega (arith, c.requires)
+put_line-requires g c = rw c.in-Rand.is at c.requires
 
-pub put_line1-requires-in-Pub : goal.put_line1-requires-in-Pub
+pub put_line-requires-in-Pub : goal.put_line-requires-in-Pub
 unfolding of_kind
-put_line1-requires-in-Pub c = let a = c.args in
-    let e = ap (λ (k : Kind). length (of_kind a.w k a.a a.b)) c.in-Pub.is ∙ line1_long (spelled W.Pub) a.w in
-    omega (arith, c.requires)
+put_line-requires-in-Pub g c = rw c.in-Pub.is at c.requires
 
-pub put_line3-requires : goal.put_line3-requires
+pub put_line-requires-in-Xor : goal.put_line-requires-in-Xor
 unfolding of_kind
-put_line3-requires c = let a = c.args in
-    let e = ap (λ (k : Kind). length (of_kind a.w k a.a a.b)) c.in-Xor.is
-    ∙ line3_long (spelled W.Xor) a.w a.a a.b in
-    omega (arith, c.requires)
+put_line-requires-in-Xor g c = rw c.in-Xor.is at c.requires
 
-pub put_line3-requires-in-And : goal.put_line3-requires-in-And
+pub put_line-requires-in-And : goal.put_line-requires-in-And
 unfolding of_kind
-put_line3-requires-in-And c = let a = c.args in
-    let e = ap (λ (k : Kind). length (of_kind a.w k a.a a.b)) c.in-And.is
-    ∙ line3_long (spelled W.And) a.w a.a a.b in
-    omega (arith, c.requires)
+put_line-requires-in-And g c = rw c.in-And.is at c.requires
 
-pub put_line2-requires : goal.put_line2-requires
+pub put_line-requires-in-Not : goal.put_line-requires-in-Not
 unfolding of_kind
-put_line2-requires c = let a = c.args in
-    let e = ap (λ (k : Kind). length (of_kind a.w k a.a a.b)) c.in-Not.is ∙ line2_long (spelled W.Not) a.w a.a in
-    omega (arith, c.requires)
+put_line-requires-in-Not g c = rw c.in-Not.is at c.requires
 
 pub returns-in-Share : goal.returns-in-Share
 unfolding of_kind
-returns-in-Share c = let a = c.args in
-    put_same (put_none _ _) (sym (ap (λ (k : Kind). of_kind a.w k a.a a.b) c.in-Share.is))
+returns-in-Share g c = rw c.in-Share.is g.met.S.Sink.laws.none
 
 pub returns-in-Rand : goal.returns-in-Rand
 unfolding of_kind
-returns-in-Rand c = let a = c.args in
-    put_same c.put_line1.ensures
-    (sym (ap (λ (k : Kind). of_kind a.w k a.a a.b) c.in-Rand.is))
+returns-in-Rand g c = rw c.in-Rand.is c.put_line.ensures
 
 pub returns-in-Pub : goal.returns-in-Pub
 unfolding of_kind
-returns-in-Pub c = let a = c.args in
-    put_same c.put_line1-in-Pub.ensures
-    (sym (ap (λ (k : Kind). of_kind a.w k a.a a.b) c.in-Pub.is))
+returns-in-Pub g c = rw c.in-Pub.is c.put_line-in-Pub.ensures
 
 pub returns-in-Xor : goal.returns-in-Xor
 unfolding of_kind
-returns-in-Xor c = let a = c.args in
-    put_same c.put_line3.ensures
-    (sym (ap (λ (k : Kind). of_kind a.w k a.a a.b) c.in-Xor.is))
+returns-in-Xor g c = rw c.in-Xor.is c.put_line-in-Xor.ensures
 
 pub returns-in-And : goal.returns-in-And
 unfolding of_kind
-returns-in-And c = let a = c.args in
-    put_same c.put_line3-in-And.ensures
-    (sym (ap (λ (k : Kind). of_kind a.w k a.a a.b) c.in-And.is))
+returns-in-And g c = rw c.in-And.is c.put_line-in-And.ensures
 
 pub returns-in-Not : goal.returns-in-Not
 unfolding of_kind
-returns-in-Not c = let a = c.args in
-    put_same c.put_line2.ensures
-    (sym (ap (λ (k : Kind). of_kind a.w k a.a a.b) c.in-Not.is))
+returns-in-Not g c = rw c.in-Not.is c.put_line-in-Not.ensures

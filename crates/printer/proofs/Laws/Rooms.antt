@@ -8,10 +8,12 @@ use Rattle.data.specs.declared.Refusal.{Refusal}
 use Rattle.data.specs.declared.Verdict.{Verdict}
 use Rattle.data.specs.declared.Verdict.TheVariants as Says
 use Rattle.data.specs.declared.Judged.{Judged}
-use Rattle.buffer.specs.Put.{Put}
+use Rattle.buffer.specs.Sinks.{Puts, page_room}
+use Rattle.buffer.specs.Laws.{page_laws}
+use Rattle.buffer.specs.declared.Page.{Page}
 use Rattle.printer.specs.Fields.{spaced, number_field, wire_fields, refused_line}
 use Rattle.printer.specs.Rooms.{number_room, counted_room, verdict_room, word_room, answer_room, refused_room}
-use Rattle.printer.proofs.Laws.Digits.{printed_few}
+use Rattle.buffer.proofs.Laws.Digits.{printed_few}
 use Rattle.printer.proofs.Laws.Lines.{answer_line_is, refused_line_is, pass_fields_lem, open_fields, refused_fields}
 
 pub wires_few : (ps : List ℕ) → length (wire_fields ps) ≤ number_room * length ps
@@ -52,12 +54,15 @@ refused_few f line =
     let y = printed_few line in
     rw (← refused_line_is f line) (simp length-append (omega arith))
 
--- where the count ends
-pub counted_ends : {b c : List ℕ} {at r : ℕ} (t : ℕ) (word : List ℕ) (n : ℕ) → Put b at ((number_field t ++ word) ++ number_field n) r c
-    → r ≤ at + (length word + counted_room)
-counted_ends t word n p =
-    let x = printed_few t in
-    let z = printed_few n in
-    let l = length-append (number_field t ++ word) (number_field n) in
-    let m = length-append (number_field t) word in
-    omega (arith, p.next)
+-- the room behind the order and the count, with a word between them
+pub counted_left : {p q : Page} (t : ℕ) (word : List ℕ) (n : ℕ) → Puts p ((number_field t ++ word) ++ number_field n) q
+    → page_room p ≤ page_room q + (length word + counted_room)
+counted_left t word n a =
+    omega (
+      arith,
+      page_laws.left a,
+      printed_few t,
+      printed_few n,
+      length-append (number_field t ++ word) (number_field n),
+      length-append (number_field t) word,
+    )

@@ -1,13 +1,8 @@
--- `printer::put_wires` meets its contract. The loop's invariant: the first i wires were put.
-use mathlib.Core.Path.{◌≡◌}
-use Prim.Native.Nat.{◌≤◌, ◌-◌}
-use lib.ListN.{length, take}
+-- `printer::put_wires` meets its contract. The loop's invariant: the wires up to the index were put.
+use Rattle.std.specs.Prelude.{◌≤◌, length, take}
+use Rattle.buffer.specs.Sinks.{Puts}
 use Rattle.printer.specs.Fields.{wire_fields}
-use Rattle.buffer.specs.Put.{Put}
 use Rattle.printer.proofs.put_wires.Given as goal
 
-abbrev pub invariant-loop-i : goal.invariant-loop-i
-invariant-loop-i l = (l.i ≤ l.end) × (length l.buf ≡ length l.initial.buf) × Put l.initial.buf l.at (wire_fields (take l.i l.places)) l.o l.buf
-
-abbrev pub decreases-loop-i : goal.decreases-loop-i
-decreases-loop-i l = l.end - l.i
+abbrev pub invariant-loop-w : goal.invariant-loop-w
+invariant-loop-w l = (l.w-index ≤ length l.wires) × Puts l.initial.out (wire_fields (take l.w-index l.wires)) l.out

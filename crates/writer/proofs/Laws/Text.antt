@@ -19,7 +19,7 @@ use Rattle.counts.proofs.Laws.Counts.{wire_is}
 use Rattle.records.specs.Records.{Fit}
 use Rattle.records.proofs.Laws.Fitting.{kind_share}
 use Rattle.pieces.specs.Pieces.{of_mark, piece}
-use Rattle.pieces.proofs.Laws.Spelling.{join_2, kind_line, mark_line}
+use Rattle.pieces.proofs.Laws.Spelling.{join_line, kind_line, mark_line}
 use Rattle.pieces.specs.declared.Part.TheVariants.{Wires, Outputs}
 use Rattle.writer.specs.Parts.{head_line, section, text_parts}
 use Rattle.writer.proofs.Laws.Sections.{section_none, section_front}
@@ -56,6 +56,6 @@ module _ (σ : Shape) (ws : List Wire) (fit : Fit σ ws) where
       let first = σ.s * σ.d in
       let n = length (take σ.n ws) in
       let R = routine_of σ ws in
-      join_2 (spelled W.Routine) σ.s σ.d (text_of_lines (wire_lines R (n - first) first ++ out_lines R n 0))
+      join_line (spelled W.Routine) (σ.s ∷ σ.d ∷ []) (text_of_lines (wire_lines R (n - first) first ++ out_lines R n 0))
       ∙ rw (fit.sized, text_append, wires_are (σ.n - σ.s * σ.d) (σ.s * σ.d) (omega arith) (omega arith), outs_are σ.n 0 (omega arith))
       (sym (append_assoc (head_line σ.s σ.d) (section Wires ws (σ.s * σ.d) (σ.n - σ.s * σ.d)) (section Outputs ws 0 σ.n)))

@@ -44,10 +44,10 @@ module _ (σ : Shape) (ws : List Wire) (b : List ℕ) where
         let l = lt-leb (length (text_parts σ ws)) (length b) h in
         record { said = simp (long, well, text, l); left = simp (long, well, text, l) }
 
-    pub write_done : {r : ℕ} {c : List ℕ} → length (text_parts σ ws) ≤ length b → Put b 0 (text_parts σ ws) r c →
-        WritesInto σ ws b (record { outcome = Ok tt; len = r }) c
+    pub write_done : {r : ℕ} {c after : List ℕ} → length (text_parts σ ws) ≤ length b → Put b 0 (text_parts σ ws) r c → after ≡ c →
+        WritesInto σ ws b (record { outcome = Ok tt; len = r }) after
     unfolding lent lent_written lent_written_into written written_into write_refusal
-    write_done {r} h p =
+    write_done {r} h p same =
         let l = le-leb (length (text_parts σ ws)) (length b) h in
         let e : r ≡ length (text_parts σ ws) = omega (arith, p.next) in
-        record { said = simp (long, well, text, l, e); left = simp (long, well, text, l) (p.left ∙ wrote_first b (text_parts σ ws) h) }
+        record { said = simp (long, well, text, l, e); left = simp (long, well, text, l) (same ∙ p.left ∙ wrote_first b (text_parts σ ws) h) }

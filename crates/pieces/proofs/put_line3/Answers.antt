@@ -1,8 +1,0 @@
--- `pieces::put_line3` meets its contract, field by field.
-use Rattle.buffer.proofs.Laws.Puts.{put_then}
-use Rattle.pieces.proofs.put_line3.Goals as goal
-
-pub returns : goal.returns
-returns c = put_then (put_then (put_then (put_then
-    c.put_word-i.ensures c.put_field-j.ensures) c.put_field-k.ensures)
-    c.put_field-m.ensures) c.put_byte.ensures
