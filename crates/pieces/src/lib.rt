@@ -8,7 +8,8 @@ ghost use Rattle.pieces.specs.Pieces.{line, of_kind, of_mark, piece};
 use buffer::Sink;
 use data::{Kind, Wire};
 
-// The two groups of lines behind the first: those that make wires, and the `out` lines.
+// The two groups of lines behind the first: those that make wires, and the `out` lines. An enum and no closure: `section` and `piece`, which say
+// what stands in each, take it too, and a closure's clause would have to name one of them beside it.
 #[derive(Clone, Copy)]
 pub enum Part {
     Wires,
@@ -37,6 +38,7 @@ pub fn put_line<S: Sink>(word: &[u8], numbers: &[u8], out: &mut S)
 }
 
 // The line that makes wire w; a share has none.
+#[tactic(auto, unfolding(crate::specs::Pieces::of_kind))]
 fn put_kind<S: Sink>(k: Kind, w: u8, a: u8, b: u8, out: &mut S)
     requires { length (of_kind w k a b) ≤ S.room out.old }
     ensures { S.puts out.old (of_kind w k a b) out.new }
@@ -52,6 +54,7 @@ fn put_kind<S: Sink>(k: Kind, w: u8, a: u8, b: u8, out: &mut S)
 }
 
 // The `out` line of wire w, if it is an output.
+#[tactic(auto, unfolding(crate::specs::Pieces::of_mark))]
 fn put_mark<S: Sink>(w: u8, marked: bool, out: &mut S)
     requires { length (of_mark w marked) ≤ S.room out.old }
     ensures { S.puts out.old (of_mark w marked) out.new }
@@ -62,6 +65,7 @@ fn put_mark<S: Sink>(w: u8, marked: bool, out: &mut S)
 }
 
 // What a part of the text has of wire w, whose record is x.
+#[tactic(auto, unfolding(crate::specs::Pieces::piece))]
 pub fn put_piece<S: Sink>(p: Part, w: u8, x: Wire, out: &mut S)
     requires { length (piece p w x) ≤ S.room out.old }
     ensures { S.puts out.old (piece p w x) out.new }

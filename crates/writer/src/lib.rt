@@ -11,6 +11,7 @@ use data::{Listing, Refusal, Shape, Wire, Written};
 use pieces::Part;
 
 // What a part of the text has of the m wires from `first` on.
+#[tactic(auto, unfolding(crate::specs::Parts::section))]
 fn put_section<S: Sink>(p: Part, first: usize, m: usize, ws: [Wire; 128], out: &mut S)
     requires { (first + m ≤ 128) × (length (section p ws first m) ≤ S.room out.old) }
     ensures { S.puts out.old (section p ws first m) out.new }
@@ -22,6 +23,7 @@ fn put_section<S: Sink>(p: Part, first: usize, m: usize, ws: [Wire; 128], out: &
 }
 
 // The first line, the wires but the shares, and the outputs.
+#[tactic(auto, using(crate::proofs::Laws::Sections::text_long), unfolding(crate::specs::Parts::text_parts))]
 fn put_text<S: Sink>(listing: Listing, out: &mut S)
     requires { Fit listing.shape listing.wires × (length (text_parts listing.shape listing.wires) ≤ S.room out.old) }
     ensures { S.puts out.old (text_parts listing.shape listing.wires) out.new }

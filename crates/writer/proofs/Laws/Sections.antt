@@ -1,6 +1,6 @@
 -- The laws of a part of the text: one wire more, the wire at its front, and its length.
 use Rattle.std.specs.Prelude.{◌≡◌, refl, List, [], ◌∷◌, ◌++◌, ℕ, zero, suc, ◌+◌, ◌-◌, ◌*◌, ◌≤◌, ◌<◌, length}
-use Rattle.std.proofs.Common.{sym, ap, ap₂, ◌∙◌, append_assoc, append-nil, not-suc-le-zero, add-one, arith, length-append}
+use Rattle.std.proofs.Common.{sym, ap, ap₂, ◌∙◌, append_assoc, append-nil, not-suc-le-zero, arith, length-append}
 use Rattle.data.proofs.Laws.Tests.{wire_cases}
 use Rattle.document.specs.Lines.{spelled}
 use Rattle.data.specs.declared.Shape.{Shape}
@@ -16,11 +16,6 @@ use Rattle.writer.specs.Parts.{head_line, section, text_parts}
 pub section_none : (p : Part) (ws : List Wire) (first : ℕ) → section p ws first 0 ≡ []
 unfolding section
 section_none p ws first = refl
-
-pub section_more : (p : Part) (ws : List Wire) (first m : ℕ)
-    → section p ws first (m + 1) ≡ section p ws first m ++ piece p (first + m) (record_at ws (first + m))
-unfolding section
-section_more p ws first m = simp add-one
 
 -- what is behind the first i wires still fits where the whole section does
 pub section_within : (p : Part) (ws : List Wire) (first i m : ℕ) → i < m
