@@ -1,6 +1,6 @@
--- The laws of bytes put into a buffer: from the front, a byte, and the same bytes in another form.
+-- The laws of bytes put into a buffer: from the front, and a byte.
 use Rattle.std.specs.Prelude.{◌≡◌, refl, List, [], ◌∷◌, ◌++◌, ℕ, ◌+◌, ◌≤◌, length, drop, set}
-use Rattle.std.proofs.Common.{ap, subst, ◌∙◌, arith}
+use Rattle.std.proofs.Common.{ap, ◌∙◌, arith}
 use Rattle.std.proofs.lemmas.List.Edits.{sets-eq}
 use Rattle.buffer.specs.Put.{wrote, Put}
 
@@ -12,6 +12,3 @@ wrote_first b v h = let z : 0 + length v ≡ length v = omega arith in sets-eq v
 pub put_one : (b : List ℕ) (at x : ℕ) → Put b at (x ∷ []) (at + 1) (set b at x)
 unfolding wrote
 put_one b at x = record { next = refl; left = refl }
-
-pub put_same : {b : List ℕ} {at : ℕ} {v w : List ℕ} {r : ℕ} {c : List ℕ} → Put b at v r c → v ≡ w → Put b at w r c
-put_same {b} {at} {v} {w} {r} {c} p e = subst (λ (x : List ℕ). Put b at x r c) e p
