@@ -1,438 +1,299 @@
 // Reading a routine text byte by byte: letters are packed into a word, digits are added up, and a line is taken at its LF.
 use crate::wires;
-use data::{Kind, Wire};
+use data::{Kind, Listing, Shape, Wire, Word};
 
-// What the bytes of the line have shown: of the field at hand its length, its letters in a word and its digits in a number;
-// of the fields before it how many, the word, whether the numbers were good, and the numbers.
+// The number of a refusal, and the line at fault.
 #[derive(Clone, Copy)]
-pub struct Split {
-    pub len: usize,
-    pub letters: u64,
-    pub digits: bool,
-    pub zero: bool,
-    pub number: usize,
-    pub fields: usize,
-    pub word: u64,
-    pub good: bool,
-    pub x: usize,
-    pub y: usize,
-    pub z: usize,
-}
-
-// What the lines have given. The refusal is its number, or 0.
-#[derive(Clone, Copy)]
-pub struct Text {
-    pub refusal: u64,
+pub struct Fault {
+    pub number: u64,
     pub line: usize,
-    pub s: usize,
-    pub d: usize,
-    pub n: usize,
-    pub rands: usize,
-    pub pubs: usize,
-    pub outs: usize,
-    pub low: usize,
-    pub wires: [Wire; 128],
 }
 
-// ---- the bytes that are no letters, and the words, as their letters are packed, eight bits each
+// The field at hand: its length, its letters in a word, eight bits each, whether all are digits, whether the first is 0, and the number.
+#[derive(Clone, Copy)]
+struct Field {
+    len: usize,
+    letters: u64,
+    digits: bool,
+    zero: bool,
+    number: usize,
+}
 
-const TAB: u8 = 9;
+// The fields of a line up to here: how many, the word, whether the numbers are good, and the numbers.
+#[derive(Clone, Copy)]
+struct Fields {
+    count: usize,
+    word: Word,
+    good: bool,
+    x: usize,
+    y: usize,
+    z: usize,
+}
 
-const LF: u8 = 10;
-
-const ZERO: u8 = 48;
-
-const NINE: u8 = 57;
-
-const ROUTINE: u64 = 32210697599938149;
-
-const RAND: u64 = 1918987876;
-
-const PUB: u64 = 7370082;
-
-const XOR: u64 = 7892850;
-
-const AND: u64 = 6385252;
-
-const NOT: u64 = 7237492;
-
-const OUT: u64 = 7304564;
+// What the lines have given: the routine, how many randoms, publics and outputs, and one above the last output.
+#[derive(Clone, Copy)]
+struct Text {
+    listing: Listing,
+    rands: usize,
+    pubs: usize,
+    outs: usize,
+    low: usize,
+}
 
 // ---- one line, byte by byte
 
-fn fresh() -> Split {
-    Split {
-        len: 0,
-        letters: 0,
-        digits: true,
-        zero: false,
-        number: 0,
-        fields: 0,
-        word: 0,
-        good: true,
-        x: 0,
-        y: 0,
-        z: 0,
-    }
-}
+const NO_FIELD: Field = Field {
+    len: 0,
+    letters: 0,
+    digits: true,
+    zero: false,
+    number: 0,
+};
 
-fn is_digit(b: u8) -> bool {
-    (ZERO <= b) & (b <= NINE)
-}
+const NO_FIELDS: Fields = Fields {
+    count: 0,
+    word: Word::Other,
+    good: true,
+    x: 0,
+    y: 0,
+    z: 0,
+};
 
-// One more digit; from 1,000 on the length has refused the number already.
-fn ten_times(number: usize, b: u8) -> usize {
-    let v = wires::wide(b);
-    if number < 1000 {
-        if 48 <= v {
-            return std::num::wrapping_add_usize(number * 10, v - 48);
+impl Field {
+    fn with(self, b: u8) -> Field {
+        let digit = b.is_ascii_digit();
+        Field {
+            len: self.len.wrapping_add(1),
+            letters: self.letters << 8 | u64::from(b),
+            digits: self.digits && digit,
+            zero: if self.len == 0 { b == b'0' } else { self.zero },
+            // From 1,000 on the length has refused the number already.
+            number: if digit && self.number < 1000 {
+                self.number * 10 + usize::from(b - b'0')
+            } else {
+                self.number
+            },
         }
     }
-    number
-}
 
-// A byte of the field at hand.
-fn lengthened(c: Split, b: u8) -> Split {
-    let mut k = c;
-    if c.len == 0 {
-        k.zero = b == ZERO;
+    fn is_number(self) -> bool {
+        let has_zeros = self.zero && 1 < self.len;
+        self.digits && 1 <= self.len && self.len <= 3 && !has_zeros
     }
-    let more = std::num::wrapping_add_usize(c.len, 1);
-    k.len = more;
-    k.letters = c.letters << 8 | b as u64;
-    let still = c.digits & is_digit(b);
-    k.digits = still;
-    let number = ten_times(c.number, b);
-    k.number = number;
-    k
-}
 
-fn is_number(c: Split) -> bool {
-    if c.len == 0 {
-        return false;
-    }
-    if 3 < c.len {
-        return false;
-    }
-    if c.zero {
-        if 1 < c.len {
-            return false;
+    fn word(self) -> Word {
+        if 8 < self.len {
+            return Word::Other;
+        }
+        match &self.letters.to_be_bytes() {
+            b"\0routine" => Word::Routine,
+            b"\0\0\0\0rand" => Word::Rand,
+            b"\0\0\0\0\0pub" => Word::Pub,
+            b"\0\0\0\0\0xor" => Word::Xor,
+            b"\0\0\0\0\0and" => Word::And,
+            b"\0\0\0\0\0not" => Word::Not,
+            b"\0\0\0\0\0out" => Word::Out,
+            _ => Word::Other,
         }
     }
-    c.digits
 }
 
-// The field at hand is at its end, and the next one is empty.
-fn closed(c: Split) -> Split {
-    let mut k = c;
-    let good = is_number(c);
-    if c.fields == 0 {
-        if c.len <= 8 {
-            k.word = c.letters;
+impl Fields {
+    fn with(self, f: Field) -> Fields {
+        let count = self.count.wrapping_add(1);
+        if self.count == 0 {
+            return Fields {
+                count,
+                word: f.word(),
+                ..self
+            };
         }
-    } else {
-        k.good = c.good & good;
+        let good = self.good && f.is_number();
+        let next = Fields {
+            count,
+            good,
+            ..self
+        };
+        match self.count {
+            1 => Fields {
+                x: f.number,
+                ..next
+            },
+            2 => Fields {
+                y: f.number,
+                ..next
+            },
+            3 => Fields {
+                z: f.number,
+                ..next
+            },
+            _ => next,
+        }
     }
-    if c.fields == 1 {
-        k.x = c.number;
-    }
-    if c.fields == 2 {
-        k.y = c.number;
-    }
-    if c.fields == 3 {
-        k.z = c.number;
-    }
-    let fields = std::num::wrapping_add_usize(c.fields, 1);
-    k.fields = fields;
-    k.len = 0;
-    k.letters = 0;
-    k.digits = true;
-    k.zero = false;
-    k.number = 0;
-    k
-}
-
-fn fed(c: Split, b: u8) -> Split {
-    if (b == TAB) | (b == LF) {
-        return closed(c);
-    }
-    lengthened(c, b)
 }
 
 // ---- the lines
 
-fn start() -> Text {
-    let x = wires::blank();
-    let wires = [x; 128];
-    Text {
-        refusal: 0,
-        line: 0,
-        s: 0,
-        d: 0,
-        n: 0,
-        rands: 0,
-        pubs: 0,
-        outs: 0,
-        low: 0,
-        wires,
-    }
-}
-
-fn refused(number: u64, line: usize) -> Text {
-    let mut t = start();
-    t.refusal = number;
-    t.line = line;
-    t
-}
-
-// The share records: the share number goes up to D, and then the secret goes up.
-pub fn share_wires(total: usize, d: usize) -> [Wire; 128] {
-    let x = wires::blank();
-    let mut ws = [x; 128];
-    let mut secret = 0;
-    let mut share = 0;
-    let mut k = 0;
-    while k < total {
-        let next = wires::with(
-            ws,
-            k,
-            Wire {
-                kind: Kind::Share,
-                a: wires::low_byte(secret),
-                b: wires::low_byte(share),
-                out: false,
-            },
-        );
-        ws = next;
-        share = std::num::wrapping_add_usize(share, 1);
+// A routine of its shares alone: the share number goes up to D, and then the secret goes up.
+pub fn begun(s: usize, d: usize) -> Listing {
+    let n = wires::shares(s, d);
+    let mut ws = [wires::BLANK; 128];
+    let mut secret: usize = 0;
+    let mut share: usize = 0;
+    for x in ws.iter_mut().take(n) {
+        x.a = wires::low_byte(secret);
+        x.b = wires::low_byte(share);
+        share = share.wrapping_add(1);
         if share == d {
             share = 0;
-            secret = std::num::wrapping_add_usize(secret, 1);
-        }
-        k += 1;
-    }
-    ws
-}
-
-fn begun(s: usize, d: usize) -> Text {
-    let total = wires::shares(s, d);
-    let ws = share_wires(total, d);
-    let mut t = start();
-    t.s = s;
-    t.d = d;
-    t.n = total;
-    t.wires = ws;
-    t
-}
-
-fn first_line(c: Split) -> Text {
-    if c.word != ROUTINE {
-        return refused(3, 1);
-    }
-    if c.fields != 3 {
-        return refused(3, 1);
-    }
-    if !c.good {
-        return refused(3, 1);
-    }
-    if (c.x < 1) | (8 < c.x) | (c.y < 2) | (8 < c.y) {
-        return refused(4, 1);
-    }
-    begun(c.x, c.y)
-}
-
-// How many fields a line of this word has; 0 where no line has it.
-fn fields_of(word: u64) -> usize {
-    if (word == RAND) | (word == PUB) | (word == OUT) {
-        return 2;
-    }
-    if word == NOT {
-        return 3;
-    }
-    if (word == XOR) | (word == AND) {
-        return 4;
-    }
-    0
-}
-
-fn kind_of(word: u64) -> Kind {
-    if word == RAND {
-        return Kind::Rand;
-    }
-    if word == PUB {
-        return Kind::Pub;
-    }
-    if word == XOR {
-        return Kind::Xor;
-    }
-    if word == AND {
-        return Kind::And;
-    }
-    Kind::Not
-}
-
-// The refusal of a wire line that has the right form, or 0.
-fn wire_fault(t: Text, c: Split) -> u64 {
-    if (c.x != t.n) | (t.outs != 0) {
-        return 6;
-    }
-    if 2 < c.fields {
-        if t.n <= c.y {
-            return 7;
+            secret = secret.wrapping_add(1);
         }
     }
-    if 3 < c.fields {
-        if t.n <= c.z {
-            return 7;
-        }
+    Listing {
+        shape: Shape { s, d, n },
+        wires: ws,
     }
-    if (127 < t.n) | ((c.word == RAND) & (63 < t.rands)) | ((c.word == PUB) & (15 < t.pubs)) {
-        return 8;
-    }
-    0
 }
 
-fn with_wire(t: Text, c: Split) -> Text {
-    let mut u = t;
-    let kind = kind_of(c.word);
-    let a = wires::low_byte(c.y);
-    let b = wires::low_byte(c.z);
-    let ws = t.wires;
-    let next = wires::with(
-        ws,
-        t.n,
-        Wire {
+// How many fields a line of this word has.
+fn fields_of(word: Word) -> Option<usize> {
+    match word {
+        Word::Rand | Word::Pub | Word::Out => Some(2),
+        Word::Not => Some(3),
+        Word::Xor | Word::And => Some(4),
+        Word::Routine | Word::Other => None,
+    }
+}
+
+fn kind_of(word: Word) -> Kind {
+    match word {
+        Word::Rand => Kind::Rand,
+        Word::Pub => Kind::Pub,
+        Word::Xor => Kind::Xor,
+        Word::And => Kind::And,
+        _ => Kind::Not,
+    }
+}
+
+// The number of the refusal of a line, where there is one.
+impl Text {
+    fn start(s: usize, d: usize) -> Text {
+        Text {
+            listing: begun(s, d),
+            rands: 0,
+            pubs: 0,
+            outs: 0,
+            low: 0,
+        }
+    }
+
+    fn first_line(c: Fields) -> Result<Text, u64> {
+        if c.word != Word::Routine || c.count != 3 || !c.good {
+            return Err(3);
+        }
+        if c.x < 1 || 8 < c.x || c.y < 2 || 8 < c.y {
+            return Err(4);
+        }
+        Ok(Text::start(c.x, c.y))
+    }
+
+    fn with_wire(self, c: Fields) -> Result<Text, u64> {
+        let n = self.listing.shape.n;
+        let kind = kind_of(c.word);
+        if c.x != n || self.outs != 0 {
+            return Err(6);
+        }
+        if 2 < c.count && n <= c.y || 3 < c.count && n <= c.z {
+            return Err(7);
+        }
+        if 127 < n || kind == Kind::Rand && 63 < self.rands || kind == Kind::Pub && 15 < self.pubs {
+            return Err(8);
+        }
+        let mut t = self;
+        let x = Wire {
             kind,
-            a,
-            b,
+            a: wires::low_byte(c.y),
+            b: wires::low_byte(c.z),
             out: false,
-        },
-    );
-    u.wires = next;
-    let n = std::num::wrapping_add_usize(t.n, 1);
-    u.n = n;
-    if c.word == RAND {
-        let rands = std::num::wrapping_add_usize(t.rands, 1);
-        u.rands = rands;
+        };
+        wires::put(&mut t.listing.wires, n, x);
+        t.listing.shape.n = n + 1;
+        t.rands = t.rands.wrapping_add(usize::from(kind == Kind::Rand));
+        t.pubs = t.pubs.wrapping_add(usize::from(kind == Kind::Pub));
+        Ok(t)
     }
-    if c.word == PUB {
-        let pubs = std::num::wrapping_add_usize(t.pubs, 1);
-        u.pubs = pubs;
-    }
-    u
-}
 
-fn out_fault(t: Text, c: Split) -> u64 {
-    if 63 < t.outs {
-        return 8;
-    }
-    if (t.n <= c.x) | (c.x < t.low) {
-        return 9;
-    }
-    0
-}
-
-fn with_out(t: Text, c: Split) -> Text {
-    let mut u = t;
-    let ws = t.wires;
-    let mut x = wires::at(ws, c.x);
-    x.out = true;
-    let next = wires::with(ws, c.x, x);
-    u.wires = next;
-    let outs = std::num::wrapping_add_usize(t.outs, 1);
-    u.outs = outs;
-    let low = std::num::wrapping_add_usize(c.x, 1);
-    u.low = low;
-    u
-}
-
-fn later_line(t: Text, c: Split, line: usize) -> Text {
-    let fields = fields_of(c.word);
-    if (fields == 0) | (fields != c.fields) | !c.good {
-        return refused(5, line);
-    }
-    if c.word == OUT {
-        let fault = out_fault(t, c);
-        if fault != 0 {
-            return refused(fault, line);
+    fn with_out(self, c: Fields) -> Result<Text, u64> {
+        if 63 < self.outs {
+            return Err(8);
         }
-        return with_out(t, c);
+        if self.listing.shape.n <= c.x || c.x < self.low {
+            return Err(9);
+        }
+        let mut t = self;
+        if let Some(x) = t.listing.wires.get_mut(c.x) {
+            x.out = true;
+        }
+        t.outs = t.outs.wrapping_add(1);
+        t.low = c.x.wrapping_add(1);
+        Ok(t)
     }
-    let fault = wire_fault(t, c);
-    if fault != 0 {
-        return refused(fault, line);
-    }
-    with_wire(t, c)
-}
 
-fn with_line(t: Text, c: Split, line: usize) -> Text {
-    if t.refusal != 0 {
-        return t;
+    fn with_line(self, c: Fields, line: usize) -> Result<Text, u64> {
+        if line == 1 {
+            return Text::first_line(c);
+        }
+        if fields_of(c.word) != Some(c.count) || !c.good {
+            return Err(5);
+        }
+        if c.word == Word::Out {
+            self.with_out(c)
+        } else {
+            self.with_wire(c)
+        }
     }
-    if line == 1 {
-        return first_line(c);
-    }
-    later_line(t, c, line)
 }
 
 // ---- the text
 
 fn is_letter(b: u8) -> bool {
-    ((97 <= b) & (b <= 122)) | is_digit(b) | (b == TAB) | (b == LF)
-}
-
-fn all_letters(text: &[u8]) -> bool {
-    let mut i = 0;
-    while i < text.len() {
-        if !is_letter(text[i]) {
-            return false;
-        }
-        i += 1;
-    }
-    true
+    matches!(b, b'a'..=b'z' | b'0'..=b'9' | b'\t' | b'\n')
 }
 
 pub fn byte_at(text: &[u8], i: usize) -> u8 {
-    if i < text.len() {
-        return text[i];
-    }
-    0
+    text.get(i).copied().unwrap_or(0)
 }
 
-fn lines(text: &[u8]) -> Text {
-    let mut t = start();
-    let mut c = fresh();
-    let mut line = 1;
-    let mut i = 0;
-    while i < text.len() {
-        let b = text[i];
-        let k = fed(c, b);
-        c = k;
-        if b == LF {
-            let next = with_line(t, c, line);
-            t = next;
-            c = fresh();
-            line = std::num::wrapping_add_usize(line, 1);
+fn lines(text: &[u8]) -> Result<Listing, Fault> {
+    let mut t = Text::start(0, 0);
+    let mut c = NO_FIELDS;
+    let mut field = NO_FIELD;
+    let mut line: usize = 1;
+    for &b in text {
+        if b != b'\t' && b != b'\n' {
+            field = field.with(b);
+            continue;
         }
-        i += 1;
+        c = c.with(field);
+        field = NO_FIELD;
+        if b == b'\n' {
+            t = t
+                .with_line(c, line)
+                .map_err(|number| Fault { number, line })?;
+            c = NO_FIELDS;
+            line = line.wrapping_add(1);
+        }
     }
-    t
+    Ok(t.listing)
 }
 
 // A whole text: refusals 1 and 2 look at it as a whole.
-pub fn read(text: &[u8]) -> Text {
-    let n = text.len();
-    if n == 0 {
-        return refused(1, 0);
+pub fn read(text: &[u8]) -> Result<Listing, Fault> {
+    if text.is_empty() || 4096 < text.len() {
+        return Err(Fault { number: 1, line: 0 });
     }
-    if 4096 < n {
-        return refused(1, 0);
-    }
-    if !all_letters(text) {
-        return refused(2, 0);
-    }
-    if byte_at(text, n - 1) != LF {
-        return refused(2, 0);
+    if !text.iter().all(|b| is_letter(*b)) || text.last() != Some(&b'\n') {
+        return Err(Fault { number: 2, line: 0 });
     }
     lines(text)
 }

@@ -1,6 +1,0 @@
--- `compare_lines::splitting::all_letters` is safe and ends.
-use Rattle.std.proofs.Common.{◌-◌, length}
-use Rattle.compare_lines.proofs.splitting.all_letters.Given as goal
-
-abbrev pub decreases-loop-i : goal.decreases-loop-i
-decreases-loop-i l = length l.text - l.i
