@@ -1,5 +1,5 @@
 // Marks on 128 wires, in two words.
-#[derive(Clone, Copy)]
+#[derive(Clone, Copy, PartialEq, Eq)]
 pub struct Marks {
     pub low: u64,
     pub high: u64,
@@ -10,31 +10,27 @@ pub fn none() -> Marks {
 }
 
 pub fn has(m: Marks, i: usize) -> bool {
-    if i < 64 {
-        return m.low >> i & 1 == 1;
+    match i {
+        0..=63 => m.low >> i & 1 == 1,
+        64..=127 => m.high >> (i - 64) & 1 == 1,
+        _ => false,
     }
-    if i < 128 {
-        return m.high >> (i - 64) & 1 == 1;
-    }
-    false
 }
 
 pub fn with(m: Marks, i: usize) -> Marks {
-    if i < 64 {
-        return Marks {
+    match i {
+        0..=63 => Marks {
             low: m.low | 1 << i,
-            high: m.high,
-        };
-    }
-    if i < 128 {
-        return Marks {
-            low: m.low,
+            ..m
+        },
+        64..=127 => Marks {
             high: m.high | 1 << (i - 64),
-        };
+            ..m
+        },
+        _ => m,
     }
-    m
 }
 
 pub fn is_same(x: Marks, y: Marks) -> bool {
-    (x.low == y.low) & (x.high == y.high)
+    x == y
 }

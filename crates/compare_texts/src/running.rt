@@ -2,102 +2,74 @@
 use crate::marks::Marks;
 use crate::{marks, spelling};
 use compare_lines::wires;
-use data::{Kind, Listing, Shape, Wire};
+use data::{Kind, Listing, Wire};
+
+// The words of bits of a run.
+#[derive(Clone, Copy)]
+pub struct Bits {
+    pub shares: u64,
+    pub randoms: u64,
+    pub publics: u64,
+}
 
 // No bit at or above the count is set.
 fn is_within(word: u64, count: usize) -> bool {
-    let mut k = 0;
-    while k < 64 {
-        if wires::bit(word, k) & (count <= k) {
-            return false;
-        }
-        k += 1;
-    }
-    true
+    (0..64).all(|k| k < count || !wires::bit(word, k))
 }
 
-// The value of wire w; the words are the input bits, and of randoms and publics so many came before it.
-fn value(w: usize, x: Wire, done: Marks, shares: u64, random: bool, public: bool) -> bool {
-    let a = marks::has(done, wires::wide(x.a));
-    let b = marks::has(done, wires::wide(x.b));
-    let k = x.kind;
-    match k {
-        Kind::Share => wires::bit(shares, w),
-        Kind::Rand => random,
-        Kind::Pub => public,
-        Kind::Xor => a != b,
-        Kind::And => a & b,
-        Kind::Not => !a,
-    }
-}
-
-fn one_if(on: bool) -> usize {
-    if on {
-        return 1;
-    }
-    0
-}
-
-fn value_byte(on: bool) -> u8 {
-    if on {
-        return 1;
-    }
-    0
-}
-
-// The values of the first n wires, a mark where it is 1.
-pub fn values(n: usize, ws: [Wire; 128], shares: u64, randoms: u64, publics: u64) -> Marks {
+// The values of the wires, a mark where it is 1; each random and each public takes the next bit of its word.
+pub fn marked(ws: &[Wire], bits: Bits) -> Marks {
     let mut done = marks::none();
-    let mut rands = 0;
-    let mut pubs = 0;
-    let mut w = 0;
-    while w < n {
-        let x = wires::at(ws, w);
-        let c = wires::code_at(ws, w);
-        let random = wires::bit(randoms, rands);
-        let public = wires::bit(publics, pubs);
-        if value(w, x, done, shares, random, public) {
-            let next = marks::with(done, w);
-            done = next;
+    let mut rands: usize = 0;
+    let mut pubs: usize = 0;
+    for (w, x) in ws.iter().enumerate() {
+        let a = marks::has(done, usize::from(x.a));
+        let b = marks::has(done, usize::from(x.b));
+        let value = match x.kind {
+            Kind::Share => wires::bit(bits.shares, w),
+            Kind::Rand => wires::bit(bits.randoms, rands),
+            Kind::Pub => wires::bit(bits.publics, pubs),
+            Kind::Xor => a != b,
+            Kind::And => a && b,
+            Kind::Not => !a,
+        };
+        if value {
+            done = marks::with(done, w);
         }
-        rands = std::num::wrapping_add_usize(rands, one_if(c == wires::RAND));
-        pubs = std::num::wrapping_add_usize(pubs, one_if(c == wires::PUB));
-        w += 1;
+        rands = rands.wrapping_add(usize::from(x.kind == Kind::Rand));
+        pubs = pubs.wrapping_add(usize::from(x.kind == Kind::Pub));
     }
     done
 }
 
-fn put_values(n: usize, done: Marks, buf: &mut [u8]) {
-    let mut i = 0;
-    while i < n {
-        spelling::put(value_byte(marks::has(done, i)), i, buf);
-        i += 1;
-    }
+pub fn values(n: usize, ws: [Wire; 128], shares: u64, randoms: u64, publics: u64) -> Marks {
+    let bits = Bits {
+        shares,
+        randoms,
+        publics,
+    };
+    marked(wires::first(&ws, n), bits)
 }
 
-// `run` into the first `room` bytes: the refusal, or 0 and the values in the buffer.
-pub fn run(
-    listing: Listing,
-    shares: u64,
-    randoms: u64,
-    publics: u64,
-    room: usize,
-    buf: &mut [u8],
-) -> u64 {
-    let Shape { s, d, n } = listing.shape;
-    let ws = listing.wires;
+// `run`: how many values are in the buffer, or the number of the refusal.
+pub fn run(listing: Listing, bits: Bits, buf: &mut [u8]) -> Result<usize, u64> {
     if !spelling::could_be_read(listing) {
-        return 11;
+        return Err(11);
     }
-    let all_shares = is_within(shares, wires::shares(s, d));
-    let all_randoms = is_within(randoms, wires::count_kind(n, ws, wires::RAND));
-    let all_publics = is_within(publics, wires::count_kind(n, ws, wires::PUB));
-    if !(all_shares & all_randoms & all_publics) {
-        return 14;
+    let ws = wires::of(&listing);
+    let shape = listing.shape;
+    let fits = is_within(bits.shares, wires::shares(shape.s, shape.d))
+        && is_within(bits.randoms, wires::count_of(ws, Kind::Rand))
+        && is_within(bits.publics, wires::count_of(ws, Kind::Pub));
+    if !fits {
+        return Err(14);
     }
-    if room < n {
-        return 15;
+    if buf.len() < ws.len() {
+        return Err(15);
     }
-    put_values(n, values(n, ws, shares, randoms, publics), buf);
-    0
+    let done = marked(ws, bits);
+    for (w, b) in buf.iter_mut().enumerate().take(ws.len()) {
+        *b = u8::from(marks::has(done, w));
+    }
+    Ok(ws.len())
 }
