@@ -5,7 +5,7 @@ fn stirred(x: u64) -> u64 {
     let a = x ^ x << 13;
     let b = a ^ a >> 7;
     let c = b ^ b << 17;
-    std::num::wrapping_add_u64(c, 11400714819323198485)
+    c.wrapping_add(0x9e37_79b9_7f4a_7c15)
 }
 
 pub fn draw(seed: u64, k: u64) -> u64 {

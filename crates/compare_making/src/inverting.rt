@@ -1,137 +1,95 @@
 // Random routines with opposites: behind a random or an xor may stand a not of it, which later wires take in its place, though not always.
 use crate::{chance, making};
-use compare_lines::wires;
-use data::{Listing, Shape, Wire};
+use compare_lines::{splitting, wires};
+use data::{Kind, Listing, Shape, Wire};
 
 // A routine in the making, and which of its wires stands for each wire of the one that it is made of.
 #[derive(Clone, Copy)]
-struct Copy {
+struct Doubling {
     draft: Listing,
     stands: [u8; 128],
 }
 
-fn stand(stands: [u8; 128], w: usize) -> usize {
-    if w < 128 {
-        return wires::wide(stands[w]);
-    }
-    0
-}
-
-fn with_stand(stands: [u8; 128], w: usize, by: usize) -> [u8; 128] {
-    let mut next = stands;
-    if w < 128 {
-        next[w] = wires::low_byte(by);
-    }
-    next
-}
-
 // The shares stand for themselves.
-fn begun(s: usize, d: usize) -> Copy {
-    let draft = making::begun(s, d);
+fn begun(s: usize, d: usize) -> Doubling {
     let mut stands = [0u8; 128];
-    let mut w = 0;
-    while w < 128 {
-        stands[w] = wires::low_byte(w);
-        w += 1;
+    for (w, by) in stands.iter_mut().enumerate() {
+        *by = wires::low_byte(w);
     }
-    Copy { draft, stands }
-}
-
-// The wire that stands for w; now and then, where that is an opposite, the one under it.
-fn operand(c: Copy, w: usize, seed: u64, k: u64) -> usize {
-    let stands = c.stands;
-    let ws = c.draft.wires;
-    let by = stand(stands, w);
-    if (wires::code_at(ws, by) == wires::NOT) & chance::one_in(seed, k, 8) {
-        let x = wires::at(ws, by);
-        return wires::wide(x.a);
+    Doubling {
+        draft: splitting::begun(s, d),
+        stands,
     }
-    by
-}
-
-// The wire again, with the operands that stand for its own.
-fn again(c: Copy, code: u8, x: Wire, seed: u64) -> Listing {
-    let t = c.draft;
-    if (code == wires::RAND) | (code == wires::PUB) {
-        return making::pushed(t, code, 0, 0);
-    }
-    let a = operand(c, wires::wide(x.a), seed, 31);
-    if code == wires::NOT {
-        return making::pushed(t, code, a, 0);
-    }
-    making::pushed(t, code, a, operand(c, wires::wide(x.b), seed, 32))
 }
 
 // Every second random and every third xor.
-fn is_inverted(code: u8, seed: u64) -> bool {
-    if code == wires::RAND {
-        return chance::one_in(seed, 33, 2);
+fn is_inverted(kind: Kind, seed: u64) -> bool {
+    match kind {
+        Kind::Rand => chance::one_in(seed, 33, 2),
+        Kind::Xor => chance::one_in(seed, 33, 3),
+        _ => false,
     }
-    (code == wires::XOR) & chance::one_in(seed, 33, 3)
 }
 
-fn marked_if(out: bool, t: Listing, w: usize) -> Listing {
-    if out {
-        return making::marked(t, w);
+impl Doubling {
+    // The wire that stands for w; now and then, where that is an opposite, the one under it.
+    fn operand(&self, w: u8, seed: u64, k: u64) -> u8 {
+        let by = self.stands.get(usize::from(w)).copied().unwrap_or(0);
+        let x = wires::at(self.draft.wires, usize::from(by));
+        if x.kind == Kind::Not && chance::one_in(seed, k, 8) {
+            x.a
+        } else {
+            by
+        }
     }
-    t
-}
 
-// Wire w of the routine again, and perhaps its opposite, which then stands for it and is the output if it was one.
-fn copied(c: Copy, t: Listing, w: usize, seed: u64) -> Copy {
-    let ws = t.wires;
-    let x = wires::at(ws, w);
-    let code = wires::code_at(ws, w);
-    let stands = c.stands;
-    let own = c.draft.shape.n;
-    let one = again(c, code, x, seed);
-    if !is_inverted(code, seed) {
-        let draft = marked_if(x.out, one, own);
-        let next = with_stand(stands, w, own);
-        return Copy {
-            draft,
-            stands: next,
+    // The wire again, with the operands that stand for its own; and its number.
+    fn push(&mut self, x: Wire, seed: u64) -> u8 {
+        let (a, b) = match x.kind {
+            Kind::Rand | Kind::Pub => (0, 0),
+            Kind::Not => (self.operand(x.a, seed, 31), 0),
+            _ => (self.operand(x.a, seed, 31), self.operand(x.b, seed, 32)),
         };
+        making::push(&mut self.draft, x.kind, a, b)
     }
-    let opposite = one.shape.n;
-    let two = making::pushed(one, wires::NOT, own, 0);
-    let draft = marked_if(x.out, two, opposite);
-    let next = with_stand(stands, w, opposite);
-    Copy {
-        draft,
-        stands: next,
+
+    // Wire w of the routine again, and perhaps its opposite, which then stands for it and is the output if it was one.
+    fn double(&mut self, x: Wire, w: usize, seed: u64) {
+        let own = self.push(x, seed);
+        let by = if is_inverted(x.kind, seed) {
+            making::push(&mut self.draft, Kind::Not, own, 0)
+        } else {
+            own
+        };
+        if x.out {
+            making::mark(&mut self.draft, usize::from(by));
+        }
+        if let Some(stand) = self.stands.get_mut(w) {
+            *stand = by;
+        }
     }
 }
 
 // The routine with opposites; where it has no room for them, without its last wires.
 fn inverted(t: Listing, seed: u64) -> Listing {
     let Shape { s, d, n } = t.shape;
+    let first = wires::shares(s, d);
     let mut c = begun(s, d);
-    let mut k: u64 = 0;
-    let mut w = wires::shares(s, d);
-    while w < n {
-        let next = copied(c, t, w, chance::draw(seed, k));
-        c = next;
-        k = std::num::wrapping_add_u64(k, 1);
-        w += 1;
+    for w in first..n {
+        let x = wires::at(t.wires, w);
+        c.double(x, w, chance::draw(seed, (w - first) as u64));
     }
-    let g = c.draft;
-    g
+    c.draft
 }
 
 // Of those of up to three shares every second one gets opposites; of the others, which have many more sets, every eighth.
-fn odds(t: Listing) -> usize {
-    if t.shape.d < 4 {
-        return 2;
-    }
-    8
-}
-
 fn perhaps_inverted(t: Listing, seed: u64) -> Listing {
-    if chance::one_in(seed, 9, odds(t)) {
-        return inverted(t, chance::draw(seed, 10));
+    let odds = if t.shape.d < 4 { 2 } else { 8 };
+    if chance::one_in(seed, 9, odds) {
+        inverted(t, chance::draw(seed, 10))
+    } else {
+        t
     }
-    t
 }
 
 // A routine that is judged whole.

@@ -1,6 +1,0 @@
--- `compare_making::making::input` is safe and ends.
-use Rattle.std.proofs.Common.{◌-◌}
-use Rattle.compare_making.proofs.making.input.Given as goal
-
-abbrev pub decreases-loop-k : goal.decreases-loop-k
-decreases-loop-k l = l.d - l.k
