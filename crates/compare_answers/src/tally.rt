@@ -106,61 +106,62 @@ pub fn places_of(which: Which) -> Places {
     }
 }
 
-pub fn none() -> [u64; 104] {
-    [0; 104]
+#[derive(Clone, Copy, PartialEq, Eq)]
+pub struct Tally {
+    counts: [u64; 104],
 }
 
-pub fn at(t: [u64; 104], i: usize) -> u64 {
-    if i < 104 {
-        return t[i];
+impl Tally {
+    pub fn new() -> Tally {
+        Tally { counts: [0; 104] }
     }
-    0
-}
 
-pub fn more(t: [u64; 104], i: usize, by: u64) -> [u64; 104] {
-    let mut u = t;
-    if i < 104 {
-        u[i] = std::num::wrapping_add_u64(u[i], by);
+    pub fn at(&self, i: usize) -> u64 {
+        self.counts.get(i).copied().unwrap_or(0)
     }
-    u
-}
 
-// One comparison of a kind, by which the answers were the same or not.
-pub fn compared(t: [u64; 104], kind: usize, same: bool) -> [u64; 104] {
-    let u = more(t, kind, 1);
-    if same {
-        return u;
+    pub fn add(&mut self, i: usize, by: u64) {
+        if let Some(count) = self.counts.get_mut(i) {
+            *count = count.wrapping_add(by);
+        }
     }
-    more(u, std::num::wrapping_add_usize(kind, DIFFER), 1)
-}
 
-// What a kind gained from t to u, counted under another kind too.
-pub fn also(t: [u64; 104], u: [u64; 104], kind: usize, other: usize) -> [u64; 104] {
-    let differ = std::num::wrapping_add_usize(kind, DIFFER);
-    let gained = std::num::wrapping_sub_u64(at(u, kind), at(t, kind));
-    let worse = std::num::wrapping_sub_u64(at(u, differ), at(t, differ));
-    let v = more(u, other, gained);
-    more(v, std::num::wrapping_add_usize(other, DIFFER), worse)
-}
-
-pub fn refused(t: [u64; 104], number: u64) -> [u64; 104] {
-    more(t, std::num::wrapping_add_usize(REFUSED, number as usize), 1)
-}
-
-pub fn outcome(t: [u64; 104], first: usize, is_open: bool) -> [u64; 104] {
-    if is_open {
-        return more(t, std::num::wrapping_add_usize(first, 1), 1);
+    // One comparison of a kind, by which the answers were the same or not.
+    pub fn compared(&mut self, kind: usize, same: bool) {
+        self.add(kind, 1);
+        if !same {
+            self.add(kind.wrapping_add(DIFFER), 1);
+        }
     }
-    more(t, first, 1)
-}
 
-// How many answers differ in all.
-pub fn differences(t: [u64; 104]) -> u64 {
-    let mut sum = 0;
-    let mut k = DIFFER;
-    while k < REFUSED {
-        sum = std::num::wrapping_add_u64(sum, at(t, k));
-        k += 1;
+    // How often a kind was compared since `before`, and how often it differed.
+    fn gained(&self, before: &Tally, kind: usize) -> (u64, u64) {
+        let differ = kind.wrapping_add(DIFFER);
+        (
+            self.at(kind).wrapping_sub(before.at(kind)),
+            self.at(differ).wrapping_sub(before.at(differ)),
+        )
     }
-    sum
+
+    // What a kind gained since `before`, counted under another kind too.
+    pub fn also(&mut self, before: &Tally, kind: usize, other: usize) {
+        let (gained, worse) = self.gained(before, kind);
+        self.add(other, gained);
+        self.add(other.wrapping_add(DIFFER), worse);
+    }
+
+    // An answer, by the number of its refusal.
+    pub fn refused(&mut self, number: Option<u64>) {
+        self.add(REFUSED.wrapping_add(number.unwrap_or(0) as usize), 1);
+    }
+
+    pub fn outcome(&mut self, first: usize, is_open: bool) {
+        self.add(first.wrapping_add(usize::from(is_open)), 1);
+    }
+
+    // How many answers differ in all.
+    pub fn differences(&self) -> u64 {
+        let differ = &self.counts[DIFFER..REFUSED];
+        differ.iter().fold(0, |sum, n| sum.wrapping_add(*n))
+    }
 }
