@@ -12,46 +12,18 @@ use data::{Filled, Judged, Needed, Padded, ProbeSet, Ran, Shape, Which, Wire, Wr
 
 // After a read: its answer, and the list.
 #[derive(Clone, Copy)]
-pub struct After {
+pub struct After<const N: usize> {
     pub answer: Filled,
-    pub list: [Wire; 130],
+    pub list: [Wire; N],
 }
 
-// After a read into too short a list.
-#[derive(Clone, Copy)]
-pub struct AfterShort {
-    pub answer: Filled,
-    pub list: [Wire; 127],
-}
-
-fn both(answer: Filled, list: [Wire; 130]) -> After
-    ensures { (result.answer ≡ answer) × (result.list ≡ list) }
-{
-    After { answer, list }
-}
-
-fn both_short(answer: Filled, list: [Wire; 127]) -> AfterShort
-    ensures { (result.answer ≡ answer) × (result.list ≡ list) }
-{
-    AfterShort { answer, list }
-}
-
-// Reads a routine text into a list of 130 records.
-pub fn read(text: &[u8], list: [Wire; 130]) -> After
-    ensures { ReadsInto text.now list result.answer result.list }
+// Reads a routine text into a list of N records.
+pub fn read<const N: usize>(text: &[u8], list: [Wire; N]) -> After<N>
+    ensures { ReadsInto text.now list.entry result.answer result.list }
 {
     let mut own = list;
     let answer = lent::read(text, &mut own);
-    both(answer, own)
-}
-
-// Reads a routine text into a list of 127 records, which is one too few.
-pub fn read_short(text: &[u8], short: [Wire; 127]) -> AfterShort
-    ensures { ReadsInto text.now short result.answer result.list }
-{
-    let mut own = short;
-    let answer = lent::read(text, &mut own);
-    both_short(answer, own)
+    After { answer, list: own }
 }
 
 // ---- writing and running
