@@ -1,93 +1,74 @@
 // Reading into a lent list, of 130 records and of 127; writing and running from one of 100.
+use compare_answers::tally::Tally;
 use compare_answers::{same, tally};
-use compare_lines::{splitting, wires};
+use compare_lines::splitting::Fault;
+use compare_lines::wires;
 use compare_making::lending;
+use compare_making::lending::CONTENT;
+use compare_texts::running::Bits;
 use data::{Listing, Ran, Shape, Wire, Written};
 
 // ---- reading
 
-// The record k of the list afterwards: the routine's below n, and the old content from n on.
-fn expected(own: splitting::Text, k: usize) -> Wire {
-    if k < own.n {
-        let ws = own.wires;
-        return wires::at(ws, k);
-    }
-    lending::content()
+// Whether the list has the routine's records afterwards, and from n on the old content.
+fn same_list(list: &[Wire], ws: &[Wire]) -> bool {
+    let wanted = |k: usize| ws.get(k).copied().unwrap_or(CONTENT);
+    list.iter().enumerate().all(|(k, x)| *x == wanted(k))
 }
 
-fn same_list(list: [Wire; 130], own: splitting::Text) -> bool {
-    let mut k = 0;
-    while k < 130 {
-        let x = list[k];
-        if !wires::is_same(x, expected(own, k)) {
-            return false;
-        }
-        k += 1;
-    }
-    true
-}
-
-fn compare_long(t: [u64; 104], text: &[u8], own: splitting::Text) -> [u64; 104] {
-    let r = compare_lists::read(text, [lending::content(); 130]);
-    let f = r.answer;
-    let list = r.list;
-    let same = same::same_answer(f, own) & same_list(list, own);
-    tally::compared(t, tally::LENT_READS, same)
-}
-
-fn is_kept(list: [Wire; 127]) -> bool {
-    let mut k = 0;
-    while k < 127 {
-        let x = list[k];
-        if !wires::is_same(x, lending::content()) {
-            return false;
-        }
-        k += 1;
-    }
-    true
+fn compare_long(t: &mut Tally, text: &[u8], own: Result<Listing, Fault>) {
+    let after = compare_lists::read(text, [CONTENT; 130]);
+    let same_wires = match own {
+        Ok(g) => same_list(&after.list, wires::of(&g)),
+        Err(_) => same_list(&after.list, &[]),
+    };
+    let same = same::same_answer(after.answer, own) && same_wires;
+    t.compared(tally::LENT_READS, same);
 }
 
 // 10 before all else, whatever the text is, and the list as it came.
-fn compare_short(t: [u64; 104], text: &[u8]) -> [u64; 104] {
-    let r = compare_lists::read_short(text, [lending::content(); 127]);
-    let f = r.answer;
-    let list = r.list;
-    let o = f.outcome;
-    let Shape { s, d, n } = f.shape;
-    let zeros = (f.line == 0) & (s == 0) & (d == 0) & (n == 0);
-    let same = (same::number(o) == 10) & zeros & is_kept(list);
-    tally::refused(tally::compared(t, tally::LENT_SHORT, same), 10)
+fn compare_short(t: &mut Tally, text: &[u8]) {
+    let after = compare_lists::read(text, [CONTENT; 127]);
+    let refused = Err(Fault {
+        number: 10,
+        line: 0,
+    });
+    let same = same::same_answer(after.answer, refused) && same_list(&after.list, &[]);
+    t.compared(tally::LENT_SHORT, same);
+    t.refused(Some(10));
 }
 
-pub fn compare_read(t: [u64; 104], text: &[u8], own: splitting::Text) -> [u64; 104] {
-    let u = compare_long(t, text, own);
-    compare_short(u, text)
+pub fn compare_read(t: &mut Tally, text: &[u8], own: Result<Listing, Fault>) {
+    compare_long(t, text, own);
+    compare_short(t, text);
 }
 
 // ---- writing and running, on values or from a list
 
 pub fn write(g: Listing, listed: bool, buf: &mut [u8]) -> Written {
-    let shape = g.shape;
-    let ws = g.wires;
     if listed {
-        return compare_lists::write(shape, lending::few(ws), buf);
+        compare_lists::write(g.shape, lending::few(g.wires), buf)
+    } else {
+        writer::write(g, buf)
     }
-    writer::write(g, buf)
-}
-
-// The words of bits of a run.
-#[derive(Clone, Copy)]
-pub struct Bits {
-    pub shares: u64,
-    pub randoms: u64,
-    pub publics: u64,
 }
 
 pub fn run(g: Listing, b: Bits, listed: bool, buf: &mut [u8]) -> Ran {
-    let shape = g.shape;
-    let ws = g.wires;
+    let Bits {
+        shares,
+        randoms,
+        publics,
+    } = b;
     if listed {
-        return compare_lists::run(shape, lending::few(ws), b.shares, b.randoms, b.publics, buf);
+        compare_lists::run(
+            g.shape,
+            lending::few(g.wires),
+            shares,
+            randoms,
+            publics,
+            buf,
+        )
+    } else {
+        runner::run(g, shares, randoms, publics, buf)
     }
-    runner::run(g, b.shares, b.randoms, b.publics, buf)
 }
