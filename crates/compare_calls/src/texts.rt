@@ -2,16 +2,12 @@
 use crate::lists;
 use compare_answers::tally::Tally;
 use compare_answers::{same, tally};
+use compare_lines::parts::first;
 use compare_lines::{splitting, wires};
 use compare_making::{chance, damaging, lending};
 use compare_texts::running::Bits;
 use compare_texts::{running, spelling};
 use data::{Kind, Listing, Shape};
-
-// The text in the first `len` bytes.
-fn first(buf: &[u8], len: usize) -> &[u8] {
-    &buf[..len.min(buf.len())]
-}
 
 // ---- reading
 

@@ -175,7 +175,7 @@ fn kind_of(word: Word) -> Kind {
     }
 }
 
-// The number of the refusal of a line, where there is one.
+// What a line makes of what was read, or the number of its refusal.
 impl Text {
     fn start(s: usize, d: usize) -> Text {
         Text {

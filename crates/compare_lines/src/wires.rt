@@ -1,4 +1,5 @@
 // Wire records one at a time: what they name, and what is counted of them.
+use crate::parts;
 use data::{Kind, Listing, Wire};
 
 pub fn low_byte(n: usize) -> u8 {
@@ -26,14 +27,9 @@ pub fn put(ws: &mut [Wire], i: usize, x: Wire) {
     }
 }
 
-// The first n records, or all.
-pub fn first(ws: &[Wire], n: usize) -> &[Wire] {
-    &ws[..n.min(ws.len())]
-}
-
 // The records of the routine's wires.
 pub fn of(listing: &Listing) -> &[Wire] {
-    first(&listing.wires, listing.shape.n)
+    parts::first(&listing.wires, listing.shape.n)
 }
 
 // How many of the records are of this kind.
@@ -96,5 +92,8 @@ pub fn code_at(ws: [Wire; 128], i: usize) -> u8 {
 
 // How many of the first n records have the kind of this number.
 pub fn count_kind(n: usize, ws: [Wire; 128], c: u8) -> usize {
-    first(&ws, n).iter().filter(|x| code(x.kind) == c).count()
+    parts::first(&ws, n)
+        .iter()
+        .filter(|x| code(x.kind) == c)
+        .count()
 }

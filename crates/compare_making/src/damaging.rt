@@ -1,13 +1,8 @@
 // Damaged texts: a byte changed, removed or doubled, a line moved, removed or doubled, the end cut off.
 use crate::chance;
+use compare_lines::parts::{between, first, rest};
 use compare_lines::splitting;
 use compare_texts::spelling::Pen;
-
-// The bytes from `from` up to `to`, as far as there are any.
-fn part(src: &[u8], from: usize, to: usize) -> &[u8] {
-    let end = to.min(src.len());
-    &src[from.min(end)..end]
-}
 
 // The place behind the LF of line k, counted from 1; the length where the text has fewer lines.
 fn line_end(src: &[u8], k: usize) -> usize {
@@ -41,9 +36,8 @@ fn byte_drawn(seed: u64) -> u8 {
 // One byte changed, removed, doubled, or put in between.
 fn byte_damaged(src: &[u8], seed: u64, which: usize, to: &mut Pen) {
     let p = chance::below(seed, 22, src.len());
-    let behind = part(src, p.wrapping_add(1), src.len());
-    let rest = part(src, p, src.len());
-    to.put_all(part(src, 0, p));
+    let behind = rest(src, p.wrapping_add(1));
+    to.put_all(first(src, p));
     match which {
         0 => {
             to.put(byte_drawn(seed));
@@ -52,11 +46,11 @@ fn byte_damaged(src: &[u8], seed: u64, which: usize, to: &mut Pen) {
         1 => to.put_all(behind),
         2 => {
             to.put(splitting::byte_at(src, p));
-            to.put_all(rest);
+            to.put_all(rest(src, p));
         }
         _ => {
             to.put(byte_drawn(seed));
-            to.put_all(rest);
+            to.put_all(rest(src, p));
         }
     }
 }
@@ -67,19 +61,19 @@ fn line_damaged(src: &[u8], seed: u64, which: usize, to: &mut Pen) {
     let k = chance::below(seed, 23, lines);
     let start = if k == 0 { 0 } else { line_end(src, k) };
     let end = line_end(src, k.wrapping_add(1));
-    let line = part(src, start, end);
-    to.put_all(part(src, 0, start));
+    let line = between(src, start, end);
+    to.put_all(first(src, start));
     match which {
-        0 => to.put_all(part(src, end, src.len())),
+        0 => to.put_all(rest(src, end)),
         1 => {
             to.put_all(line);
-            to.put_all(part(src, start, src.len()));
+            to.put_all(rest(src, start));
         }
         _ => {
             let far = line_end(src, k.wrapping_add(chance::below(seed, 24, lines)));
-            to.put_all(part(src, end, far));
+            to.put_all(between(src, end, far));
             to.put_all(line);
-            to.put_all(part(src, far.max(end), src.len()));
+            to.put_all(rest(src, far.max(end)));
         }
     }
 }
@@ -99,7 +93,7 @@ pub fn damaged(src: &[u8], seed: u64, dst: &mut [u8]) -> usize {
     match which {
         0 => {}
         1..=2 => repeated(src, seed, &mut to),
-        3..=5 => to.put_all(part(src, 0, chance::below(seed, 27, src.len()))),
+        3..=5 => to.put_all(first(src, chance::below(seed, 27, src.len()))),
         6..=23 => line_damaged(src, seed, which % 3, &mut to),
         _ => byte_damaged(src, seed, which % 4, &mut to),
     }

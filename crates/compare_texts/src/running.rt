@@ -1,7 +1,7 @@
 // Running a routine: the values in marks, one wire after the other.
 use crate::marks::Marks;
 use crate::{marks, spelling};
-use compare_lines::wires;
+use compare_lines::{parts, wires};
 use data::{Kind, Listing, Wire};
 
 // The words of bits of a run.
@@ -48,7 +48,7 @@ pub fn values(n: usize, ws: [Wire; 128], shares: u64, randoms: u64, publics: u64
         randoms,
         publics,
     };
-    marked(wires::first(&ws, n), bits)
+    marked(parts::first(&ws, n), bits)
 }
 
 // `run`: how many values are in the buffer, or the number of the refusal.

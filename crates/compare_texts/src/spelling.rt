@@ -1,5 +1,5 @@
 // A routine's text, put byte by byte; and the test of refusal 11: what is read back from that text are the same records.
-use compare_lines::{splitting, wires};
+use compare_lines::{parts, splitting, wires};
 use data::{Kind, Listing, Shape, Wire};
 
 // A byte that no text has.
@@ -75,7 +75,7 @@ impl<'a> Pen<'a> {
 }
 
 fn digit(n: usize) -> u8 {
-    (48 + n % 10) as u8
+    b'0' + (n % 10) as u8
 }
 
 // The text with the line of wire w behind its `len` bytes, and its length.
@@ -109,7 +109,7 @@ pub fn could_be_read(listing: Listing) -> bool {
     }
     let mut buf = [0u8; 4096];
     let len = text(listing, &mut buf);
-    match splitting::read(&buf[..len.min(4096)]) {
+    match splitting::read(parts::first(&buf, len)) {
         Ok(own) => own.shape == listing.shape && wires::of(&own) == wires::of(&listing),
         Err(_) => false,
     }
