@@ -2,6 +2,7 @@
 #![tactic(auto)]
 
 use compare_answers::tally;
+use compare_answers::tally::Tally;
 use compare_calls::texts;
 use compare_judging::{judged, sets};
 use compare_making::{chance, inverting, making, spoiling};
@@ -70,32 +71,32 @@ const ANSWERS: [(&str, usize); 8] = [
     ("steps made", tally::STEPS_MADE),
 ];
 
-fn say_kinds(out: &mut impl Write, t: [u64; 104]) -> io::Result<()> {
+fn say_kinds(out: &mut impl Write, t: &Tally) -> io::Result<()> {
     for (words, kind) in KINDS {
-        let compared = tally::at(t, kind);
-        let differ = tally::at(t, kind.wrapping_add(tally::DIFFER));
+        let compared = t.at(kind);
+        let differ = t.at(kind.wrapping_add(tally::DIFFER));
         writeln!(out, "{words}: compared {compared}, differ {differ}")?;
     }
     Ok(())
 }
 
-fn say_answers(out: &mut impl Write, t: [u64; 104]) -> io::Result<()> {
+fn say_answers(out: &mut impl Write, t: &Tally) -> io::Result<()> {
     for (words, place) in ANSWERS {
-        writeln!(out, "{words}: {}", tally::at(t, place))?;
+        writeln!(out, "{words}: {}", t.at(place))?;
     }
     Ok(())
 }
 
 // How often each refusal was given, from 1 to 15.
-fn say_refusals(out: &mut impl Write, t: [u64; 104]) -> io::Result<()> {
+fn say_refusals(out: &mut impl Write, t: &Tally) -> io::Result<()> {
     write!(out, "refusals 1 to 15:")?;
     for number in 1..16 {
-        write!(out, " {}", tally::at(t, tally::REFUSED + number))?;
+        write!(out, " {}", t.at(tally::REFUSED + number))?;
     }
     writeln!(out)
 }
 
-fn say_all(out: &mut impl Write, t: [u64; 104]) -> io::Result<()> {
+fn say_all(out: &mut impl Write, t: &Tally) -> io::Result<()> {
     writeln!(out, "routines judged at every order: {ROUTINES}")?;
     writeln!(out, "routines up to the ceilings: {LARGE}")?;
     writeln!(out, "routines about one ceiling: {LARGE}")?;
@@ -105,8 +106,8 @@ fn say_all(out: &mut impl Write, t: [u64; 104]) -> io::Result<()> {
 }
 
 // The routine's text, if the answers differ in more than before it.
-fn show(out: &mut impl Write, t: [u64; 104], u: [u64; 104], g: &Listing) -> io::Result<()> {
-    if tally::differences(t) == tally::differences(u) {
+fn show(out: &mut impl Write, before: &Tally, t: &Tally, g: &Listing) -> io::Result<()> {
+    if before.differences() == t.differences() {
         return Ok(());
     }
     let mut text = [32u8; 4096];
@@ -121,74 +122,68 @@ fn show(out: &mut impl Write, t: [u64; 104], u: [u64; 104], g: &Listing) -> io::
 // ---- the routines
 
 // Every call but the judgements, on the routine and on what a spoiling makes of it.
-fn compare_calls(t: [u64; 104], g: &Listing, seed: u64, sets: u64) -> [u64; 104] {
-    let t = texts::compare_reading(t, *g, chance::draw(seed, 1));
-    let t = texts::compare_writing(t, *g, chance::draw(seed, 2));
-    let t = texts::compare_running(t, *g, chance::draw(seed, 3));
-    let t = texts::compare_records(t, *g);
-    let t = sets::compare_sets(t, g, chance::draw(seed, 4), sets);
-    let t = sets::compare_additions(t, chance::draw(seed, 5));
-    compare_spoiled(t, g, chance::draw(seed, 6))
+fn compare_calls(t: &mut Tally, g: &Listing, seed: u64, sets: u64) {
+    texts::compare_reading(t, *g, chance::draw(seed, 1));
+    texts::compare_writing(t, *g, chance::draw(seed, 2));
+    texts::compare_running(t, *g, chance::draw(seed, 3));
+    texts::compare_records(t, *g);
+    sets::compare_sets(t, g, chance::draw(seed, 4), sets);
+    sets::compare_additions(t, chance::draw(seed, 5));
+    compare_spoiled(t, g, chance::draw(seed, 6));
 }
 
-fn compare_spoiled(t: [u64; 104], g: &Listing, seed: u64) -> [u64; 104] {
+fn compare_spoiled(t: &mut Tally, g: &Listing, seed: u64) {
     let h = spoiling::spoiled(*g, seed);
-    let t = texts::compare_text(t, h);
-    let t = texts::compare_records(t, h);
-    let t = texts::compare_writing(t, h, seed);
-    let t = texts::compare_running(t, h, seed);
-    let t = texts::compare_records(t, spoiling::spoiled(h, chance::draw(seed, 7)));
-    sets::compare_sets(t, &h, seed, 1)
+    texts::compare_text(t, h);
+    texts::compare_records(t, h);
+    texts::compare_writing(t, h, seed);
+    texts::compare_running(t, h, seed);
+    texts::compare_records(t, spoiling::spoiled(h, chance::draw(seed, 7)));
+    sets::compare_sets(t, &h, seed, 1);
 }
 
-fn compare_small(out: &mut impl Write, t: [u64; 104], seed: u64) -> io::Result<[u64; 104]> {
+fn compare_small(out: &mut impl Write, t: &mut Tally, seed: u64) -> io::Result<()> {
+    let before = *t;
     let g = inverting::routine(chance::draw(seed, 8));
-    let u = compare_calls(t, &g, seed, 10);
-    let u = judged::compare_orders(u, &g, seed);
-    let u = sets::compare_draws(u, &g, chance::draw(seed, 11), 20);
-    show(out, t, u, &g)?;
-    Ok(u)
+    compare_calls(t, &g, seed, 10);
+    judged::compare_orders(t, &g, seed);
+    sets::compare_draws(t, &g, chance::draw(seed, 11), 20);
+    show(out, &before, t, &g)
 }
 
 // Routines up to the ceilings are judged at order 1 only; order 5 is refused also where D is above it.
-fn compare_large(out: &mut impl Write, t: [u64; 104], seed: u64) -> io::Result<[u64; 104]> {
+fn compare_large(out: &mut impl Write, t: &mut Tally, seed: u64) -> io::Result<()> {
+    let before = *t;
     let g = inverting::large(chance::draw(seed, 9));
-    let u = compare_calls(t, &g, seed, 4);
-    let u = judged::compare_order(u, &spoiling::spoiled(g, seed), 1);
-    let u = judged::compare_order(u, &g, 5);
-    show(out, t, u, &g)?;
-    Ok(u)
+    compare_calls(t, &g, seed, 4);
+    judged::compare_order(t, &spoiling::spoiled(g, seed), 1);
+    judged::compare_order(t, &g, 5);
+    show(out, &before, t, &g)
 }
 
-fn compare_crowded(out: &mut impl Write, t: [u64; 104], seed: u64) -> io::Result<[u64; 104]> {
+fn compare_crowded(out: &mut impl Write, t: &mut Tally, seed: u64) -> io::Result<()> {
+    let before = *t;
     let g = making::crowded(chance::draw(seed, 10));
-    let u = compare_calls(t, &g, seed, 2);
-    let u = texts::compare_next(u, g);
-    show(out, t, u, &g)?;
-    Ok(u)
+    compare_calls(t, &g, seed, 2);
+    texts::compare_next(t, g);
+    show(out, &before, t, &g)
 }
 
-fn compare_all_small(out: &mut impl Write, mut t: [u64; 104]) -> io::Result<[u64; 104]> {
+fn compare_all(out: &mut impl Write, t: &mut Tally) -> io::Result<()> {
     for k in 0..ROUTINES {
-        let next = compare_small(out, t, chance::draw(SEED, k))?;
-        t = next;
+        compare_small(out, t, chance::draw(SEED, k))?;
     }
-    Ok(t)
-}
-
-fn compare_all_large(out: &mut impl Write, mut t: [u64; 104]) -> io::Result<[u64; 104]> {
     for k in 0..LARGE {
-        let large = compare_large(out, t, chance::draw(SEED ^ 1, k))?;
-        let next = compare_crowded(out, large, chance::draw(SEED ^ 2, k))?;
-        t = next;
+        compare_large(out, t, chance::draw(SEED ^ 1, k))?;
+        compare_crowded(out, t, chance::draw(SEED ^ 2, k))?;
     }
-    Ok(t)
+    Ok(())
 }
 
 fn main(rt: HostRuntime) -> io::Result<()> {
     let mut out = BufWriter::new(rt.alloc(), io::writer(&rt))?;
-    let t = compare_all_small(&mut out, tally::none())?;
-    let t = compare_all_large(&mut out, t)?;
-    say_all(&mut out, t)?;
+    let mut t = Tally::new();
+    compare_all(&mut out, &mut t)?;
+    say_all(&mut out, &t)?;
     out.flush()
 }

@@ -1,8 +1,7 @@
 // Whether an answer of the product is the other one.
 use compare_lines::splitting::Fault;
 use compare_lines::wires;
-use compare_rules::{adding, judging, padding};
-use data::{Added, Filled, Judged, Listing, Needed, Padded, Read, Refusal, Shape, Verdict};
+use data::{Filled, Listing, Read, Refusal, Shape};
 
 // The number of a refusal in the table, said here again: the product's own is one of the things compared.
 fn number_of(f: Refusal) -> u64 {
@@ -51,44 +50,4 @@ pub fn same_read(r: Read, own: Result<Listing, Fault>) -> bool {
         Err(_) => true,
     };
     same_answer(answer, own) && same_wires
-}
-
-// Of a set all four places, also those past the end.
-pub fn same_addition(r: Added, a: adding::Addition) -> bool {
-    let refusal = if a.refused { Some(13) } else { None };
-    number(r.outcome) == refusal && r.set == a.set
-}
-
-pub fn same_needed(r: Needed, a: padding::Answer) -> bool {
-    number(r.outcome).unwrap_or(0) == a.refusal
-        && r.shares == a.shares
-        && r.undecided == a.undecided
-}
-
-// All 128 pairs, also the unused ones.
-pub fn same_padded(r: Padded, a: padding::Answer) -> bool {
-    number(r.outcome).unwrap_or(0) == a.refusal
-        && r.len == a.len
-        && r.undecided == a.undecided
-        && r.steps == a.steps
-}
-
-pub fn same_judged(r: Judged, j: judging::Judgement) -> bool {
-    let same_verdict = match r.verdict {
-        Verdict::Pass(count) => j.refusal == 0 && !j.hit && count == j.count,
-        Verdict::Open(count) => j.refusal == 0 && j.hit && count == j.count,
-        Verdict::Refused(f) => j.refusal == number_of(f),
-    };
-    same_verdict && r.set == j.set
-}
-
-// What is taken for the place of the first open set where no set is open: it lies above each place.
-pub const NEVER: u64 = u64::MAX;
-
-// The place of the first open set.
-pub fn open_place(v: Verdict) -> u64 {
-    match v {
-        Verdict::Open(count) => count,
-        Verdict::Pass(_) | Verdict::Refused(_) => NEVER,
-    }
 }

@@ -1,9 +1,11 @@
 // Whole judgements by both, and what a pass means by counting wherever a small routine passes.
+use compare_answers::tally::Tally;
 use compare_answers::{same, tally};
+use compare_lines::wires;
 use compare_making::{chance, lending};
 use compare_rules::judging::Sets;
 use compare_rules::starts::{Small, Table};
-use compare_rules::{judging, padding, shares, starts};
+use compare_rules::{judging, shares, starts};
 use data::{Judged, Kind, Listing, ProbeSet, Verdict, Which};
 
 // ---- starts
@@ -21,63 +23,59 @@ impl Pass<'_> {
     fn few_depend(&self, set: &ProbeSet) -> bool {
         let listing = &self.routine.listing;
         let word = self.table.dependent(self.routine, set);
-        let inner = judging::inner(padding::records(listing), set);
+        let inner = judging::inner(wires::of(listing), set);
         !shares::is_over(listing.shape, word, inner)
     }
 
     // What the pass says of one set.
-    fn observe_set(&self, t: [u64; 104], set: &ProbeSet) -> [u64; 104] {
+    fn observe_set(&self, t: &mut Tally, set: &ProbeSet) {
         match self.which {
             Which::Plain => {
                 let even = self.table.is_even(self.routine.listing.shape.s, set);
-                tally::compared(t, tally::EVEN, even)
+                t.compared(tally::EVEN, even);
             }
-            Which::Strong => tally::compared(t, tally::DRAWN, self.few_depend(set)),
+            Which::Strong => t.compared(tally::DRAWN, self.few_depend(set)),
         }
     }
 
     // Every set of a size is observed.
-    fn observe_size(&self, t: [u64; 104], size: usize) -> [u64; 104] {
-        Sets::of_size(size, self.routine.listing.shape.n).fold(
-            t,
-            |t, set| self.observe_set(t, &set),
-        )
+    fn observe_size(&self, t: &mut Tally, size: usize) {
+        for set in Sets::of_size(size, self.routine.listing.shape.n) {
+            self.observe_set(t, &set);
+        }
     }
 
     // The empty set first: of a plain pass, that each choice of the secrets has as many starts as another.
-    fn observe_sizes(&self, t: [u64; 104], top: usize) -> [u64; 104] {
-        let t = self.observe_set(t, &judging::EMPTY);
-        (1..=top).fold(t, |t, size| self.observe_size(t, size))
+    fn observe_sizes(&self, t: &mut Tally, top: usize) {
+        self.observe_set(t, &judging::EMPTY);
+        for size in 1..=top {
+            self.observe_size(t, size);
+        }
     }
 }
 
 // A pass is held to what it means, with the public bits fixed at each of their values.
-fn observe(t: [u64; 104], g: &Listing, which: Which, order: usize) -> [u64; 104] {
+fn observe(t: &mut Tally, g: &Listing, which: Which, order: usize) {
     let small = starts::starts_of(g);
     let Some(routine) = small.filter(|r| which == Which::Plain || starts::can_draw(r)) else {
-        return t;
+        return;
     };
-    let values: u64 = 1 << (starts::count_kind(g, Kind::Pub) % 3);
-    (0..values).fold(t, |t, publics| {
+    let pubs = wires::count_of(wires::of(g), Kind::Pub);
+    let values: u64 = 1 << (pubs % 3);
+    for publics in 0..values {
         let pass = Pass {
             routine: &routine,
             which,
             table: &Table::of(&routine, publics),
         };
-        pass.observe_sizes(t, order)
-    })
+        pass.observe_sizes(t, order);
+    }
 }
 
 // ---- judgements
 
 // Over a lent list: the other answer is that of the routine with all its records, or of a list that does not hold it.
-fn compare_listed(
-    t: [u64; 104],
-    g: &Listing,
-    which: Which,
-    order: usize,
-    all: Judged,
-) -> [u64; 104] {
+fn compare_listed(t: &mut Tally, g: &Listing, which: Which, order: usize, all: Judged) {
     let list = lending::few(g.wires);
     let product = compare_lists::judge(g.shape, list, which, order);
     let own = if g.shape.n <= 100 {
@@ -85,12 +83,12 @@ fn compare_listed(
     } else {
         judging::judge(&lending::held(*g, true), which, order)
     };
-    tally::compared(t, tally::places_of(which).list, product == own)
+    t.compared(tally::places_of(which).list, product == own);
 }
 
 // Whether it has a not, and starts that can be counted.
 fn has_nots(g: &Listing) -> bool {
-    starts::starts_of(g).is_some() && starts::count_kind(g, Kind::Not) != 0
+    starts::starts_of(g).is_some() && wires::count_of(wires::of(g), Kind::Not) != 0
 }
 
 // The place of the first open set.
@@ -102,47 +100,40 @@ fn open_place(verdict: Verdict) -> Option<u64> {
 }
 
 // The product's judgement with no not padded has its first open set no later. A pass is held to what it means, and counted apart where padded nots give it.
-fn compare_kept(
-    t: [u64; 104],
-    g: &Listing,
-    which: Which,
-    order: usize,
-    place: Option<u64>,
-) -> [u64; 104] {
+fn compare_kept(t: &mut Tally, g: &Listing, which: Which, order: usize, place: Option<u64>) {
     let kept = open_place(judge::judge(judging::with_nots_kept(g), which, order).verdict);
     let no_later = place.is_none_or(|open| kept.is_some_and(|first| first <= open));
-    let t = tally::compared(t, tally::NOTS_KEPT, no_later);
+    t.compared(tally::NOTS_KEPT, no_later);
     if place.is_some() {
-        return t;
+        return;
     }
-    let observed = observe(t, g, which, order);
-    if kept.is_none() {
-        return observed;
+    let before = *t;
+    observe(t, g, which, order);
+    if kept.is_some() {
+        let places = tally::places_of(which);
+        t.add(tally::PASS_INVERTED, 1);
+        t.also(&before, places.meant, places.inverted);
     }
-    let counted = tally::more(observed, tally::PASS_INVERTED, 1);
-    let places = tally::places_of(which);
-    tally::also(t, counted, places.meant, places.inverted)
 }
 
-fn compare_judgement(t: [u64; 104], g: &Listing, which: Which, order: usize) -> [u64; 104] {
+fn compare_judgement(t: &mut Tally, g: &Listing, which: Which, order: usize) {
     let places = tally::places_of(which);
     let product = judge::judge(*g, which, order);
     let own = judging::judge(g, which, order);
-    let t = tally::compared(t, places.values, product == own);
-    let t = compare_listed(t, g, which, order, own);
+    t.compared(places.values, product == own);
+    compare_listed(t, g, which, order, own);
     if let Verdict::Refused(refusal) = own.verdict {
-        return tally::refused(t, same::number(Err(refusal)));
+        t.refused(same::number(Err(refusal)));
+        return;
     }
-    let t = tally::refused(t, same::number(Ok(())));
+    t.refused(None);
     let is_open = open_place(own.verdict).is_some();
-    let t = tally::outcome(t, places.pass, is_open);
+    t.outcome(places.pass, is_open);
     if has_nots(g) {
-        return compare_kept(t, g, which, order, open_place(product.verdict));
+        compare_kept(t, g, which, order, open_place(product.verdict));
+    } else if !is_open {
+        observe(t, g, which, order);
     }
-    if is_open {
-        return t;
-    }
-    observe(t, g, which, order)
 }
 
 // ---- orders
@@ -156,8 +147,8 @@ struct Opened {
 
 impl Opened {
     // Those of the last order, by what is counted before and after it.
-    fn between(t: [u64; 104], u: [u64; 104]) -> Opened {
-        let is_new = |kind| tally::at(t, kind) != tally::at(u, kind);
+    fn between(before: &Tally, after: &Tally) -> Opened {
+        let is_new = |kind| before.at(kind) != after.at(kind);
         Opened {
             plain: is_new(tally::PLAIN_OPEN),
             strong: is_new(tally::STRONG_OPEN),
@@ -172,39 +163,38 @@ impl Opened {
     }
 }
 
-pub fn compare_order(t: [u64; 104], g: &Listing, order: usize) -> [u64; 104] {
-    let t = compare_judgement(t, g, Which::Plain, order);
-    compare_judgement(t, g, Which::Strong, order)
+pub fn compare_order(t: &mut Tally, g: &Listing, order: usize) {
+    compare_judgement(t, g, Which::Plain, order);
+    compare_judgement(t, g, Which::Strong, order);
 }
 
 // 9.13, 9.32: an order that passes has no lower one that is open. 9.31: nor is the plain judgement where the strong one passes.
-fn compare_passes(t: [u64; 104], lower: Opened, own: Opened) -> [u64; 104] {
-    let t = tally::compared(t, tally::LOWER, own.plain || !lower.plain);
-    let t = tally::compared(t, tally::LOWER_STRONG, own.strong || !lower.strong);
-    tally::compared(t, tally::STRONG_PLAIN, own.strong || !own.plain)
+fn compare_passes(t: &mut Tally, lower: Opened, own: Opened) {
+    t.compared(tally::LOWER, own.plain || !lower.plain);
+    t.compared(tally::LOWER_STRONG, own.strong || !lower.strong);
+    t.compared(tally::STRONG_PLAIN, own.strong || !own.plain);
 }
 
 // Every order that is judged, from 1 to the lower of 4 and D - 1.
-fn compare_judged(mut t: [u64; 104], g: &Listing) -> [u64; 104] {
+fn compare_judged(t: &mut Tally, g: &Listing) {
     let mut lower = Opened {
         plain: false,
         strong: false,
     };
     for order in 1..g.shape.d.min(5) {
-        let judged = compare_order(t, g, order);
-        let own = Opened::between(t, judged);
-        let next = compare_passes(judged, lower, own);
-        t = next;
+        let before = *t;
+        compare_order(t, g, order);
+        let own = Opened::between(&before, t);
+        compare_passes(t, lower, own);
         lower = lower.or(own);
     }
-    t
 }
 
 // Order 0, order 5 and one at D or above are refused.
-pub fn compare_orders(t: [u64; 104], g: &Listing, seed: u64) -> [u64; 104] {
+pub fn compare_orders(t: &mut Tally, g: &Listing, seed: u64) {
     let above = g.shape.d.wrapping_add(chance::below(seed, 90, 3));
-    let t = compare_order(t, g, 0);
-    let t = compare_order(t, g, 5);
-    let t = compare_order(t, g, above);
-    compare_judged(t, g)
+    compare_order(t, g, 0);
+    compare_order(t, g, 5);
+    compare_order(t, g, above);
+    compare_judged(t, g);
 }

@@ -1,4 +1,5 @@
 // Additions to probe sets, the needed shares and the steps of one set, each by both; and what needed shares mean, by counting.
+use compare_answers::tally::Tally;
 use compare_answers::{same, tally};
 use compare_making::{chance, lending};
 use compare_rules::starts::{Small, Table};
@@ -44,15 +45,15 @@ fn set_drawn(seed: u64, n: usize, size: usize) -> ProbeSet {
 
 // ---- additions
 
-fn compare_addition(t: [u64; 104], set: ProbeSet, w: usize) -> [u64; 104] {
-    tally::compared(t, tally::ADDITIONS, set.add(w) == adding::add(set, w))
+fn compare_addition(t: &mut Tally, set: ProbeSet, w: usize) {
+    t.compared(tally::ADDITIONS, set.add(w) == adding::add(set, w));
 }
 
-pub fn compare_additions(t: [u64; 104], seed: u64) -> [u64; 104] {
+pub fn compare_additions(t: &mut Tally, seed: u64) {
     let n = chance::below(seed, 77, 128).wrapping_add(1);
-    let t = compare_addition(t, set_drawn(seed, n, 4), chance::below(seed, 78, 132));
     let small = set_drawn(chance::draw(seed, 79), 6, 3);
-    compare_addition(t, small, chance::below(seed, 80, 8))
+    compare_addition(t, set_drawn(seed, n, 4), chance::below(seed, 78, 132));
+    compare_addition(t, small, chance::below(seed, 80, 8));
 }
 
 // ---- one set
@@ -76,13 +77,7 @@ fn size_drawn(seed: u64, order: usize) -> usize {
 }
 
 // Over a lent list: the other answers are those of the routine with all its records, or of a list that does not hold it.
-fn compare_listed(
-    t: [u64; 104],
-    g: &Listing,
-    order: usize,
-    set: ProbeSet,
-    all: padding::Answers,
-) -> [u64; 104] {
+fn compare_listed(t: &mut Tally, g: &Listing, order: usize, set: ProbeSet, all: padding::Answers) {
     let list = lending::few(g.wires);
     let needed = compare_lists::needs(g.shape, list, order, set);
     let padded = compare_lists::pads(g.shape, list, order, set);
@@ -91,63 +86,56 @@ fn compare_listed(
     } else {
         padding::judge_set(&lending::held(*g, true), order, &set)
     };
-    let t = tally::compared(t, tally::LENT_NEEDED, needed == own.needed);
-    tally::compared(t, tally::LENT_STEPS, padded == own.padded)
+    t.compared(tally::LENT_NEEDED, needed == own.needed);
+    t.compared(tally::LENT_STEPS, padded == own.padded);
 }
 
-fn compare_set(t: [u64; 104], g: &Listing, order: usize, set: ProbeSet) -> [u64; 104] {
+fn compare_set(t: &mut Tally, g: &Listing, order: usize, set: ProbeSet) {
     let own = padding::judge_set(g, order, &set);
     let needed = rule::needs(*g, order, set);
     let padded = rule::pads(*g, order, set);
-    let t = tally::compared(t, tally::NEEDED, needed == own.needed);
-    let t = tally::compared(t, tally::STEPS, padded == own.padded);
-    let t = compare_listed(t, g, order, set, own);
-    let t = tally::refused(t, same::number(own.needed.outcome));
-    if own.needed.outcome.is_err() {
-        return t;
+    t.compared(tally::NEEDED, needed == own.needed);
+    t.compared(tally::STEPS, padded == own.padded);
+    compare_listed(t, g, order, set, own);
+    t.refused(same::number(own.needed.outcome));
+    if own.needed.outcome.is_ok() {
+        t.outcome(tally::SETS_CLOSED, own.needed.undecided);
+        t.add(tally::STEPS_MADE, own.padded.len as u64);
     }
-    let t = tally::outcome(t, tally::SETS_CLOSED, own.needed.undecided);
-    tally::more(t, tally::STEPS_MADE, own.padded.len as u64)
 }
 
-pub fn compare_sets(t: [u64; 104], g: &Listing, seed: u64, count: u64) -> [u64; 104] {
-    (0..count).fold(t, |t, k| {
+pub fn compare_sets(t: &mut Tally, g: &Listing, seed: u64, count: u64) {
+    for k in 0..count {
         let own = chance::draw(seed, k);
         let order = order_drawn(own, g.shape.d);
         let set = set_drawn(own, g.shape.n, size_drawn(own, order));
-        compare_set(t, g, order, set)
-    })
+        compare_set(t, g, order, set);
+    }
 }
 
 // ---- drawings
 
 // 9.29: how often the randoms give each pattern of the set depends on needed shares alone, those that the product gives.
-fn compare_drawn(
-    t: [u64; 104],
-    r: &Small,
-    table: &Table,
-    order: usize,
-    set: ProbeSet,
-) -> [u64; 104] {
+fn compare_drawn(t: &mut Tally, r: &Small, table: &Table, order: usize, set: ProbeSet) {
     let own = padding::judge_set(&r.listing, order, &set);
     if own.needed.outcome.is_err() {
-        return t;
+        return;
     }
     let needed = rule::needs(r.listing, order, set).shares;
     let dependent = table.dependent(r, &set);
-    tally::compared(t, tally::NEEDED_DRAWN, dependent | needed == needed)
+    t.compared(tally::NEEDED_DRAWN, dependent | needed == needed);
 }
 
 // Of a small routine, with some public bits.
-pub fn compare_draws(t: [u64; 104], g: &Listing, seed: u64, count: u64) -> [u64; 104] {
+pub fn compare_draws(t: &mut Tally, g: &Listing, seed: u64, count: u64) {
     let Some(r) = starts::starts_of(g).filter(|r| starts::can_draw(r)) else {
-        return t;
+        return;
     };
     let table = Table::of(&r, chance::draw(seed, 91));
-    (0..count).fold(t, |t, k| {
+    for k in 0..count {
         let own = chance::draw(seed, k);
         let order = order_drawn(own, g.shape.d);
         let set = set_drawn(own, g.shape.n, order);
-        compare_drawn(t, &r, &table, order, set)
-    })
+        compare_drawn(t, &r, &table, order, set);
+    }
 }

@@ -16,7 +16,7 @@ pub const BLANK: Wire = Wire {
 };
 
 // The record of wire i, a blank one beyond the list.
-pub fn at(ws: [Wire; 128], i: usize) -> Wire {
+pub fn at(ws: &[Wire], i: usize) -> Wire {
     ws.get(i).copied().unwrap_or(BLANK)
 }
 
@@ -57,43 +57,4 @@ pub fn bit(word: u64, k: usize) -> bool {
 
 pub fn bit_of(on: bool, k: usize) -> u64 {
     if on && k < 64 { 1 << k } else { 0 }
-}
-
-// ---- the kinds as numbers
-
-pub const RAND: u8 = 1;
-
-pub const PUB: u8 = 2;
-
-pub const XOR: u8 = 3;
-
-pub const AND: u8 = 4;
-
-pub const NOT: u8 = 5;
-
-pub fn wide(b: u8) -> usize {
-    usize::from(b)
-}
-
-fn code(k: Kind) -> u8 {
-    match k {
-        Kind::Share => 0,
-        Kind::Rand => RAND,
-        Kind::Pub => PUB,
-        Kind::Xor => XOR,
-        Kind::And => AND,
-        Kind::Not => NOT,
-    }
-}
-
-pub fn code_at(ws: [Wire; 128], i: usize) -> u8 {
-    code(at(ws, i).kind)
-}
-
-// How many of the first n records have the kind of this number.
-pub fn count_kind(n: usize, ws: [Wire; 128], c: u8) -> usize {
-    parts::first(&ws, n)
-        .iter()
-        .filter(|x| code(x.kind) == c)
-        .count()
 }

@@ -35,7 +35,7 @@ impl Doubling {
     // The wire that stands for w; now and then, where that is an opposite, the one under it.
     fn operand(&self, w: u8, seed: u64, k: u64) -> u8 {
         let by = self.stands.get(usize::from(w)).copied().unwrap_or(0);
-        let x = wires::at(self.draft.wires, usize::from(by));
+        let x = wires::at(&self.draft.wires, usize::from(by));
         if x.kind == Kind::Not && chance::one_in(seed, k, 8) {
             x.a
         } else {
@@ -76,7 +76,7 @@ fn inverted(t: Listing, seed: u64) -> Listing {
     let first = wires::shares(s, d);
     let mut c = begun(s, d);
     for w in first..n {
-        let x = wires::at(t.wires, w);
+        let x = wires::at(&t.wires, w);
         c.double(x, w, chance::draw(seed, (w - first) as u64));
     }
     c.draft

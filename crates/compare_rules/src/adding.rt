@@ -16,12 +16,6 @@ pub fn is_below(set: &ProbeSet, n: usize) -> bool {
     held(set).iter().all(|w| usize::from(*w) < n)
 }
 
-#[derive(Clone, Copy)]
-pub struct Addition {
-    pub refused: bool,
-    pub set: ProbeSet,
-}
-
 // The set with one wire more, sorted anew.
 fn with_wire(set: ProbeSet, w: usize) -> Result<ProbeSet, Refusal> {
     let ProbeSet { mut places, len } = set;

@@ -3,6 +3,7 @@ ghost use Rattle.std.specs.Iterator.{at_most};
 
 use crate::adding::held;
 use crate::{padding, shares};
+use compare_lines::wires;
 use data::{Judged, Kind, Listing, ProbeSet, Verdict, Which, Wire};
 
 // ---- sets
@@ -84,15 +85,6 @@ pub fn inner(wires: &[Wire], set: &ProbeSet) -> usize {
 
 // ---- judgements
 
-// A refusal or 0, whether a set was open, how many were judged, and that set.
-#[derive(Clone, Copy)]
-pub struct Judgement {
-    pub refusal: u64,
-    pub hit: bool,
-    pub count: u64,
-    pub set: ProbeSet,
-}
-
 // What is judged, and at which order.
 #[derive(Clone, Copy)]
 struct Case<'a> {
@@ -104,7 +96,7 @@ struct Case<'a> {
 impl Case<'_> {
     fn is_open(&self, set: &ProbeSet) -> bool {
         let shape = self.listing.shape;
-        let wires = padding::records(self.listing);
+        let wires = wires::of(self.listing);
         let live = padding::pad_all(wires, padding::probe_marks(set)).live;
         let bound = match self.which {
             Which::Plain => self.t,

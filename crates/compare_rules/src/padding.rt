@@ -5,11 +5,6 @@ use compare_texts::marks::Marks;
 use compare_texts::{marks, spelling};
 use data::{Kind, Listing, Needed, Padded, ProbeSet, Refusal, Shape, Step, Wire};
 
-// The records of the routine's wires.
-pub fn records(listing: &Listing) -> &[Wire] {
-    &listing.wires[..listing.shape.n.min(128)]
-}
-
 // ---- one wire
 
 // The wires that it computes from; of a not its one, twice.
@@ -85,7 +80,7 @@ impl<'a> State<'a> {
         for _ in 0..129 {
             let before = self.live;
             self.sweep();
-            if marks::is_same(before, self.live) {
+            if before == self.live {
                 return;
             }
         }
@@ -171,16 +166,6 @@ pub fn share_word(shape: Shape, live: Marks) -> u64 {
     shares::word_of(wires::shares(shape.s, shape.d), |k| marks::has(live, k))
 }
 
-// The answer for one set of the padding calls: a refusal or 0, the needed shares, the steps, and whether it is plain-open.
-#[derive(Clone, Copy)]
-pub struct Answer {
-    pub refusal: u64,
-    pub shares: u64,
-    pub undecided: bool,
-    pub len: usize,
-    pub steps: [Step; 128],
-}
-
 // What the two calls on one set answer.
 #[derive(Clone, Copy)]
 pub struct Answers {
@@ -250,7 +235,7 @@ pub fn judge_set(listing: &Listing, t: usize, set: &ProbeSet) -> Answers {
         Ok(()) => answered(
             listing.shape,
             t,
-            pad_all(records(listing), probe_marks(set)),
+            pad_all(wires::of(listing), probe_marks(set)),
         ),
         Err(refusal) => refused(refusal),
     }

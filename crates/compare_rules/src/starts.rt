@@ -1,9 +1,10 @@
 // What a pass means by counting: every start of a small routine is run. For each set it is counted, under each choice of the secrets, from how
 // many starts all its wires are 1 (a plain pass); and for each share word, with how many drawings it shows each pattern (a strong one).
 use crate::adding::held;
-use crate::{padding, shares};
+use crate::shares;
 use compare_lines::wires;
 use compare_texts::running;
+use compare_texts::running::Bits;
 use data::{Kind, Listing, ProbeSet, Shape};
 
 // ---- routines
@@ -17,21 +18,14 @@ pub struct Small {
     pub starts: usize,
 }
 
-// How many wires of the kind it has.
-pub fn count_kind(listing: &Listing, kind: Kind) -> usize {
-    padding::records(listing)
-        .iter()
-        .filter(|x| x.kind == kind)
-        .count()
-}
-
 // The routine, if its starts can be counted: at most 512 of them, 40 wires and two publics.
 pub fn starts_of(listing: &Listing) -> Option<Small> {
     let Shape { s, d, n } = listing.shape;
+    let ws = wires::of(listing);
     let total = wires::shares(s, d);
-    let randoms = count_kind(listing, Kind::Rand);
+    let randoms = wires::count_of(ws, Kind::Rand);
     let bits = total.wrapping_add(randoms);
-    if 9 < bits || 2 < count_kind(listing, Kind::Pub) || 40 < n {
+    if 9 < bits || 2 < wires::count_of(ws, Kind::Pub) || 40 < n {
         return None;
     }
     Some(Small {
@@ -114,11 +108,17 @@ impl Table {
             ones: [Marked::none(); 64],
             chosen: [Marked::none(); 64],
         };
-        let Listing { shape, wires } = r.listing;
+        let shape = r.listing.shape;
+        let ws = wires::of(&r.listing);
         for x in 0..r.starts {
             let word = low_bits(x as u64, r.total);
             let randoms = high_bits(x as u64, r.total);
-            let values = running::values(shape.n, wires, word, randoms, publics);
+            let bits = Bits {
+                shares: word,
+                randoms,
+                publics,
+            };
+            let values = running::values(ws, bits);
             table.note(x, values.low, secrets(shape, word));
         }
         table

@@ -30,7 +30,3 @@ pub fn with(m: Marks, i: usize) -> Marks {
         _ => m,
     }
 }
-
-pub fn is_same(x: Marks, y: Marks) -> bool {
-    x == y
-}

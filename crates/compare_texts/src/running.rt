@@ -1,7 +1,7 @@
 // Running a routine: the values in marks, one wire after the other.
 use crate::marks::Marks;
 use crate::{marks, spelling};
-use compare_lines::{parts, wires};
+use compare_lines::wires;
 use data::{Kind, Listing, Wire};
 
 // The words of bits of a run.
@@ -18,7 +18,7 @@ fn is_within(word: u64, count: usize) -> bool {
 }
 
 // The values of the wires, a mark where it is 1; each random and each public takes the next bit of its word.
-pub fn marked(ws: &[Wire], bits: Bits) -> Marks {
+pub fn values(ws: &[Wire], bits: Bits) -> Marks {
     let mut done = marks::none();
     let mut rands: usize = 0;
     let mut pubs: usize = 0;
@@ -42,15 +42,6 @@ pub fn marked(ws: &[Wire], bits: Bits) -> Marks {
     done
 }
 
-pub fn values(n: usize, ws: [Wire; 128], shares: u64, randoms: u64, publics: u64) -> Marks {
-    let bits = Bits {
-        shares,
-        randoms,
-        publics,
-    };
-    marked(parts::first(&ws, n), bits)
-}
-
 // `run`: how many values are in the buffer, or the number of the refusal.
 pub fn run(listing: Listing, bits: Bits, buf: &mut [u8]) -> Result<usize, u64> {
     if !spelling::could_be_read(listing) {
@@ -67,7 +58,7 @@ pub fn run(listing: Listing, bits: Bits, buf: &mut [u8]) -> Result<usize, u64> {
     if buf.len() < ws.len() {
         return Err(15);
     }
-    let done = marked(ws, bits);
+    let done = values(ws, bits);
     for (w, b) in buf.iter_mut().enumerate().take(ws.len()) {
         *b = u8::from(marks::has(done, w));
     }

@@ -92,10 +92,10 @@ pub fn text(listing: Listing, buf: &mut [u8]) -> usize {
     let mut p = Pen::new(buf, 0);
     p.put_line(b"routine", &[s, d]);
     for w in shares..n {
-        p.put_wire(wires::at(listing.wires, w), w);
+        p.put_wire(wires::at(&listing.wires, w), w);
     }
     for w in 0..n {
-        if wires::at(listing.wires, w).out {
+        if wires::at(&listing.wires, w).out {
             p.put_line(b"out", &[w]);
         }
     }
