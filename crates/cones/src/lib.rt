@@ -106,17 +106,13 @@ pub fn cones_of(listing: Listing) -> [Cone; 128]
     let Shape { s, d, n } = listing.shape;
     let shares = s * d;
     let mut cones = [Cone::none(); 128];
-    let mut counts = Counts {
-        rands: 0,
-        pubs: 0,
-        outs: 0,
-    };
+    let mut counts = Counts::none();
     for (w, x) in listing.wires[..n].iter().enumerate() {
         let share = bit_if(w < shares, w);
         let rand = bit_if(x.kind == Kind::Rand, counts.rands);
         let (p, q) = (cones[usize::from(x.a)], cones[usize::from(x.b)]);
         cones[w] = cone_of(*x, share, rand, p, q);
-        counts = counts::count_record(counts, *x);
+        counts = counts.with(*x);
     }
     cones
 }

@@ -47,14 +47,6 @@ impl Counts {
     }
 }
 
-// The counts with one record more.
-pub fn count_record(c: Counts, x: Wire) -> Counts
-    requires { Room c }
-    ensures { result ≡ with_record c x }
-{
-    c.with(x)
-}
-
 // The counts over the records.
 pub fn count_records(ws: &[Wire]) -> Counts
     requires { length ws.now ≤ 128 }

@@ -209,13 +209,6 @@ impl Refusal {
     }
 }
 
-// The lower of two numbers.
-pub fn lower(a: usize, b: usize) -> usize
-    ensures { result ≡ min a b }
-{
-    a.min(b)
-}
-
 // 4.3: each held wire is above the one before it.
 #[tactic(auto, using(crate::proofs::Laws::Placing::ascends_on, crate::proofs::Laws::Placing::ascends_not, crate::proofs::Laws::Placing::ascends_end))]
 pub fn is_ascending(held: &[u8]) -> bool

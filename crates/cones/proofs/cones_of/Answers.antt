@@ -28,8 +28,8 @@ bounds-cones-from c = let i = item_inside _ _ c.requires c.loop-w.w (omega (arit
 pub bounds-cones-from-in-loop-w : goal.bounds-cones-from-in-loop-w
 bounds-cones-from-in-loop-w c = let i = item_inside _ _ c.requires c.loop-w.w (omega (arith, length-take-le _ _ (fit_of _ _ c.requires).long)) in let e = c.from-in-loop-w.ensures in omega arith
 
-pub count_record-counts-requires : goal.count_record-counts-requires
-count_record-counts-requires c = rw c.loop-w.invariant.counted (counts_room c.loop-w.w c.args.listing.wires
+pub with-counts-requires : goal.with-counts-requires
+with-counts-requires c = rw c.loop-w.invariant.counted (counts_room c.loop-w.w c.args.listing.wires
     (let f = (fit_of _ _ c.requires).few in let h : c.loop-w.w < c.args.listing.shape.n = (let t = c.loop-w-test.true in let l = length-take-le _ _ (fit_of _ _ c.requires).long in omega arith) in omega arith))
 
 pub loop-w-preserved : goal.loop-w-preserved
@@ -38,5 +38,5 @@ loop-w-preserved c = let v = c.loop-w.invariant in let f = (fit_of _ _ c.require
   made = cones_more _ _ c.requires c.loop-w.w h c.loop-w.cones c.loop-w.counts.rands _ _ _ (let r = v.room in omega arith)
       (ap (λ (k : Counts). k.rands) v.counted) v.made c.bit_if-share.ensures (rw c.eq.ensures at c.bit_if-rand.ensures)
       (rw (c.from.ensures, c.from-in-loop-w.ensures) at c.cone_of.ensures);
-  counted = c.count_record-counts.ensures ∙ counts_next _ _ c.requires c.loop-w.w h _ v.counted;
+  counted = c.with-counts.ensures ∙ counts_next _ _ c.requires c.loop-w.w h _ v.counted;
 }
