@@ -18,9 +18,9 @@ returns-then-n-gt128 c =
     let σ = c.args.listing.shape in
     let ws = c.args.listing.wires in
     elim c.then-n-gt128.branch [
-        then-n-gt128-via-then-n-gt128 w ↦ sym (too_long σ ws (omega arith))
+      | then-n-gt128-via-then-n-gt128 w ↦ sym (too_long σ ws (omega arith))
       | then-n-gt128-via-else-n-gt128+then-not-in_range w ↦
-            sym (range_fails σ ws (omega arith) (omega arith) (sym w.in_range.ensures ∙ w.if-not-in_range.true))
+          sym (range_fails σ ws (omega arith) (omega arith) (sym w.in_range.ensures ∙ w.if-not-in_range.true))
     ]
 
 pub returns-then-n-shares : goal.returns-then-n-shares
