@@ -42,7 +42,7 @@ number_of R.Steps = 16
 abbrev pub Outcome : Type 0
 Outcome = Result ⊤ Refusal
 
--- 7.28: an outcome in numbers: that of its refusal, or 0 where the call is done, whatever it gave
-abbrev pub outcome_number : {A : Type 0} → Result A Refusal → ℕ
+-- 7.28: an outcome in numbers: that of its refusal, or 0 where the call is done
+abbrev pub outcome_number : Outcome → ℕ
 outcome_number (Ok u) = 0
 outcome_number (Err f) = number_of f

@@ -5,7 +5,7 @@ use Rattle.data.specs.Basics.{each}
 use Rattle.data.specs.Refusals.{outcome_number}
 use Rattle.document.specs.Routine.{size, in_range, well_formed, routine_of, records_fit}
 use Rattle.document.specs.Lines.{lf, lines_in}
-use Rattle.document.specs.Reading.{is_next, earlier, has_room, make, mark_out, take_line, blanks, not_read, onward, read_lines, begun}
+use Rattle.document.specs.Reading.{is_next, earlier, has_room, make, mark_out, take_line, outcome_of, blanks, not_read, onward, read_lines, begun}
 use Rattle.document.specs.Reading.{from_header, from_first, letter, reading}
 use Rattle.document.specs.Writing.{text_of, write_refusal, written, written_into}
 use Rattle.document.specs.Running.{bits_fit, run_refusal, ran, ran_into}
@@ -44,7 +44,7 @@ abbrev of_read : Read → ℕ
 of_read r = outcome_number r.outcome
 
 abbrev of_taken : Result State Refusal → ℕ
-of_taken r = outcome_number r
+of_taken r = outcome_number (outcome_of r)
 
 abbrev of_written : Written → ℕ
 of_written r = outcome_number r.outcome
@@ -94,13 +94,13 @@ unfolding from_first from_header
 header_number s d ls = cond_of of_read (in_range s d) _ _
 
 -- 7.5: 5 for a line of no form, and for a second header
-pub form_number : (st : State) (s d : ℕ) → (outcome_number (take_line st None) ≡ 5) × (outcome_number (take_line st (Some (L.Head s d))) ≡ 5)
+pub form_number : (st : State) (s d : ℕ) → (outcome_number (outcome_of (take_line st None)) ≡ 5) × (outcome_number (outcome_of (take_line st (Some (L.Head s d)))) ≡ 5)
 unfolding take_line
 form_number st s d = (refl, refl)
 
 -- 7.6 to 7.8: of a wire line 6 for its number, then 7 for its operands, then 8 for a ceiling
 pub wire_number : (st : State) (w : ℕ) (k : Kind) (a b : ℕ)
-    → outcome_number (make st w k a b) ≡ cond (is_next st w) (cond (earlier w k a b) (cond (has_room st k) 0 8) 7) 6
+    → outcome_number (outcome_of (make st w k a b)) ≡ cond (is_next st w) (cond (earlier w k a b) (cond (has_room st k) 0 8) 7) 6
 unfolding make
 wire_number st w k a b =
     cond_of of_taken (is_next st w) _ _
@@ -109,7 +109,7 @@ wire_number st w k a b =
 
 -- 7.8, 7.9: of an `out` line 8 for the 65th output, then 9 for its wire
 pub out_number : (st : State) (w : ℕ)
-    → outcome_number (mark_out st w) ≡ cond (ltb st.outs 64) (cond (ltb w st.n && leb st.low w) 0 9) 8
+    → outcome_number (outcome_of (mark_out st w)) ≡ cond (ltb st.outs 64) (cond (ltb w st.n && leb st.low w) 0 9) 8
 unfolding mark_out
 out_number st w =
     cond_of of_taken (ltb st.outs 64) _ _ ∙ ap (λ (n : ℕ). cond (ltb st.outs 64) n 8) (cond_of of_taken (ltb w st.n && leb st.low w) _ _)

@@ -10,6 +10,7 @@ use Rattle.data.specs.declared.Line.{Line}
 use Rattle.data.specs.declared.Line.TheVariants as L
 use Rattle.data.specs.declared.Refusal.{Refusal}
 use Rattle.data.specs.declared.Refusal.TheVariants as No
+use Rattle.data.specs.Refusals.{Outcome}
 use Rattle.data.specs.declared.State.{State}
 use Rattle.data.specs.declared.Read.{Read}
 use Rattle.data.specs.declared.Shape.{Shape}
@@ -83,6 +84,11 @@ take_line st (Some (L.Xor w a b)) = make st w K.Xor a b
 take_line st (Some (L.And w a b)) = make st w K.And a b
 take_line st (Some (L.Not w a)) = make st w K.Not a 0
 take_line st (Some (L.Out w)) = mark_out st w
+
+-- 1.41: what became of a line, whatever state it gave
+abbrev pub outcome_of : Result State Refusal → Outcome
+outcome_of (Ok st) = Ok tt
+outcome_of (Err f) = Err f
 
 -- ---- the whole text
 
