@@ -13,7 +13,7 @@ pub overflow_mul-shares : goal.overflow_mul-shares
 overflow_mul-shares c = omega (arith, (fit_of _ _ c.requires).range.shares_few)
 
 pub loop-w-init : goal.loop-w-init
-loop-w-init c = record { room = refl; made = λ v l. absurd (omega arith); counted = sym (counts_none _) }
+loop-w-init c = record { room = refl; made = λ v l. absurd (omega arith); counted = c.none-counts.ensures ∙ sym (counts_none _) }
 
 pub bit_if-share-requires : goal.bit_if-share-requires
 bit_if-share-requires c = let f = (fit_of _ _ c.requires).range.shares_few in grind arith
