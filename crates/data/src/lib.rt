@@ -111,6 +111,7 @@ pub struct State {
 }
 
 // 1.36: a read routine, or a refusal with the line at fault.
+// A struct and no Result: a refused one has sizes and records too (7.23, theorem refused_reading).
 #[derive(Clone, Copy, PartialEq, Eq)]
 pub struct Read {
     pub outcome: Result<(), Refusal>,
@@ -119,6 +120,7 @@ pub struct Read {
 }
 
 // 6.7: what became of a read into a lent list, which has the records.
+// A struct and no Result: a refused one has sizes too (7.23, theorem refused_read).
 #[derive(Clone, Copy, PartialEq, Eq)]
 pub struct Filled {
     pub outcome: Result<(), Refusal>,
@@ -127,6 +129,7 @@ pub struct Filled {
 }
 
 // 6.11: what became of a writing, and how many bytes it wrote.
+// A struct and no Result: a refused one has a length too (7.24, theorem refused_write).
 #[derive(Clone, Copy, PartialEq, Eq)]
 pub struct Written {
     pub outcome: Result<(), Refusal>,
@@ -134,6 +137,7 @@ pub struct Written {
 }
 
 // 2.7: what became of a run, and how many bytes it wrote.
+// A struct and no Result: a refused one has a length too (7.24, theorem refused_run).
 #[derive(Clone, Copy, PartialEq, Eq)]
 pub struct Ran {
     pub outcome: Result<(), Refusal>,
@@ -148,6 +152,7 @@ pub struct ProbeSet {
 }
 
 // 4.5: a set handed back by an addition, with what became of the addition.
+// A struct and no Result: a refused one hands its set back too (7.27, theorem refused_add).
 #[derive(Clone, Copy, PartialEq, Eq)]
 pub struct Added {
     pub outcome: Result<(), Refusal>,
@@ -162,6 +167,7 @@ pub struct Step {
 }
 
 // 5.22, 5.23: the needed shares of one set, bit k for wire k; undecided says that the set is plain-open at the order.
+// A struct and no Result: a refused one has a word and a flag too (7.26, theorem refused_needs).
 #[derive(Clone, Copy, PartialEq, Eq)]
 pub struct Needed {
     pub outcome: Result<(), Refusal>,
@@ -170,6 +176,7 @@ pub struct Needed {
 }
 
 // 5.22, 5.25: the steps of one set, in the first `len` pairs; the others are 0, 0.
+// A struct and no Result: a refused one has steps and a flag too (7.26, theorem refused_pads). No heap: an array with its length.
 #[derive(Clone, Copy, PartialEq, Eq)]
 pub struct Padded {
     pub outcome: Result<(), Refusal>,

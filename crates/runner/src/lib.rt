@@ -30,7 +30,7 @@ fn put_value(w: usize, x: Wire, c: Counts, inputs: Inputs, buf: &mut [u8])
     buf[w] = inputs.value(x.kind, w, c, a, b);
 }
 
-// A refused run wrote nothing.
+// A refused run wrote nothing. What `writer` has like it is of another type (2.7, 6.11).
 fn not_run(f: Refusal) -> Ran
     ensures { result ≡ ran_not f }
 {

@@ -35,7 +35,7 @@ fn put_text<S: Sink>(listing: Listing, out: &mut S)
     put_section(Part::Outputs, 0, n, listing.wires, out);
 }
 
-// A refused writing wrote nothing.
+// A refused writing wrote nothing. What `runner` has like it is of another type (6.11, 2.7).
 fn not_written(f: Refusal) -> Written
     ensures { result ≡ written_not f }
 {
