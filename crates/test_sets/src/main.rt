@@ -39,6 +39,7 @@ fn show_unbuilt(out: &mut impl Write) -> io::Result<()> {
 fn show_additions(out: &mut impl Write) -> io::Result<()> {
     let mut set = ProbeSet::empty();
     for w in [3, 1, 3, 128, 127, 2, 5] {
+        // in two steps: of a call whose result goes straight into a local that holds an array no proof is generated
         let next = show_added(out, set, w)?;
         set = next;
     }

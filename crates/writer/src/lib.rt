@@ -10,7 +10,7 @@ use buffer::{Count, Page, Sink};
 use data::{Listing, Refusal, Shape, Wire, Written};
 use pieces::Part;
 
-// What a part of the text has of the m wires from `first` on.
+// What a part of the text has of the m wires from `first` on. No slice of them: a line has the number of its wire, so `first` would stay beside it.
 #[tactic(auto, unfolding(crate::specs::Parts::section))]
 fn put_section<S: Sink>(p: Part, first: usize, m: usize, ws: [Wire; 128], out: &mut S)
     requires { (first + m ≤ 128) × (length (section p ws first m) ≤ S.room out.old) }
