@@ -23,7 +23,7 @@ struct Field {
 #[derive(Clone, Copy)]
 struct Fields {
     count: usize,
-    word: Word,
+    word: Option<Word>,
     good: bool,
     x: usize,
     y: usize,
@@ -52,7 +52,7 @@ const NO_FIELD: Field = Field {
 
 const NO_FIELDS: Fields = Fields {
     count: 0,
-    word: Word::Other,
+    word: None,
     good: true,
     x: 0,
     y: 0,
@@ -81,19 +81,19 @@ impl Field {
         self.digits && 1 <= self.len && self.len <= 3 && !has_zeros
     }
 
-    fn word(self) -> Word {
+    fn word(self) -> Option<Word> {
         if 8 < self.len {
-            return Word::Other;
+            return None;
         }
         match &self.letters.to_be_bytes() {
-            b"\0routine" => Word::Routine,
-            b"\0\0\0\0rand" => Word::Rand,
-            b"\0\0\0\0\0pub" => Word::Pub,
-            b"\0\0\0\0\0xor" => Word::Xor,
-            b"\0\0\0\0\0and" => Word::And,
-            b"\0\0\0\0\0not" => Word::Not,
-            b"\0\0\0\0\0out" => Word::Out,
-            _ => Word::Other,
+            b"\0routine" => Some(Word::Routine),
+            b"\0\0\0\0rand" => Some(Word::Rand),
+            b"\0\0\0\0\0pub" => Some(Word::Pub),
+            b"\0\0\0\0\0xor" => Some(Word::Xor),
+            b"\0\0\0\0\0and" => Some(Word::And),
+            b"\0\0\0\0\0not" => Some(Word::Not),
+            b"\0\0\0\0\0out" => Some(Word::Out),
+            _ => None,
         }
     }
 }
@@ -161,7 +161,7 @@ fn fields_of(word: Word) -> Option<usize> {
         Word::Rand | Word::Pub | Word::Out => Some(2),
         Word::Not => Some(3),
         Word::Xor | Word::And => Some(4),
-        Word::Routine | Word::Other => None,
+        Word::Routine => None,
     }
 }
 
@@ -188,7 +188,7 @@ impl Text {
     }
 
     fn first_line(c: Fields) -> Result<Text, u64> {
-        if c.word != Word::Routine || c.count != 3 || !c.good {
+        if c.word != Some(Word::Routine) || c.count != 3 || !c.good {
             return Err(3);
         }
         if c.x < 1 || 8 < c.x || c.y < 2 || 8 < c.y {
@@ -197,9 +197,8 @@ impl Text {
         Ok(Text::start(c.x, c.y))
     }
 
-    fn with_wire(self, c: Fields) -> Result<Text, u64> {
+    fn with_wire(self, kind: Kind, c: Fields) -> Result<Text, u64> {
         let n = self.listing.shape.n;
-        let kind = kind_of(c.word);
         if c.x != n || self.outs != 0 {
             return Err(6);
         }
@@ -243,13 +242,13 @@ impl Text {
         if line == 1 {
             return Text::first_line(c);
         }
-        if fields_of(c.word) != Some(c.count) || !c.good {
+        let word = c.word.ok_or(5u64)?;
+        if fields_of(word) != Some(c.count) || !c.good {
             return Err(5);
         }
-        if c.word == Word::Out {
-            self.with_out(c)
-        } else {
-            self.with_wire(c)
+        match word {
+            Word::Out => self.with_out(c),
+            _ => self.with_wire(kind_of(word), c),
         }
     }
 }
