@@ -24,9 +24,9 @@ form() {
 }
 
 echo '1  own Option and Result'
-form 'enums with a variant for nothing or for a failure' '^pub enum (Number|Word|Line|Outcome|Next|Input|Stand) '
+form 'a variant of an enum for nothing, for a failure or for no failure' '^    (Bad|Other|End|Done|Failed),'
 form 'answers with an outcome beside the values' 'outcome: (Outcome|Result<\(\), Refusal>),'
-form 'a flag, or a number that is 0 for none, beside a value' '^    (pub )?(hit|found|refused|plain|strong|undecided): bool,|^    (pub )?refusal: u64,|^    (pub )?last: isize,'
+form 'a flag, or a number that is 0 for none, beside a value' '^    (pub )?(hit|found|refused): bool,|^    (pub )?refusal: u64,|^    (pub )?last: isize,'
 form 'numbers for kinds' 'wires::(RAND|PUB|XOR|AND|NOT)\b|^pub const (RAND|PUB|XOR|AND|NOT): u8|code: u8'
 echo '2  twins'
 form 'functions that differ in a count, a size or a constant' '^(pub )?fn (with_(one|two|three)|of_(one|two|three)|(one|two|three)_digits?|put_line[123]|is_(rand|pub)|(rands|pubs)_of|(lower|higher)|(share|rand|one)_bit|bit_if|(share|rand)_cones|own_rands|(needed|padded)_not|not_(run|written)|put_(number|printed)|one_if)\('
