@@ -10,11 +10,7 @@ use data::{Verdict, Which};
 fn is_pass(verdict: Verdict) -> bool
     ensures { result ≡ (told verdict).passes }
 {
-    match verdict {
-        Verdict::Pass(_) => true,
-        Verdict::Open(_) => false,
-        Verdict::Refused(_) => false,
-    }
+    matches!(verdict, Verdict::Pass(_))
 }
 
 // The text is a routine that passes the plain judgement of order 2.
@@ -22,8 +18,6 @@ pub fn passes(text: &[u8]) -> bool
     ensures { result ≡ passes_plain2 text.now }
 {
     let got = reader::read(text);
-    let listing = got.listing;
-    let answer = judge::judge(listing, Which::Plain, 2);
-    let verdict = answer.verdict;
-    is_pass(verdict)
+    let answer = judge::judge(got.listing, Which::Plain, 2);
+    is_pass(answer.verdict)
 }
