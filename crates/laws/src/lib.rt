@@ -1,0 +1,2 @@
+// Laws that the definitions have and that no proof cites now; nothing here computes.
+#![tactic(auto)]
