@@ -1,12 +1,12 @@
 -- The tables of no wires, and with a wire more, each by the words of the earlier wires; and a bit as a table shifts it.
-use Rattle.std.specs.Prelude.{◌≡◌, true, length, take, set, ◌%◌}
+use Rattle.std.specs.Prelude.{◌≡◌, true, cond, ltb, length, take, set, ◌%◌}
 use Rattle.std.proofs.Math.Path.{refl, sym, ap}
 use Rattle.std.proofs.Common.{ap₂, ◌∙◌, inl, inr, add-one, one-mul, arith, lit<, get_or-take, take-suc-set, shl_exact}
 use mathlib.Core.List.{List, [], ◌∷◌, ◌++◌}
 use Prim.Native.Nat.{ℕ, ◌+◌, ◌*◌, ◌^◌, ◌<◌}
 use Rattle.std.specs.Int.Bits.{bit_or, or_zero_r}
 use Rattle.std.proofs.Math.ListN.{get_or}
-use Rattle.document.specs.Routine.{Routine, size, wire, rands_before, routine_of, records_fit, operands_of, operands}
+use Rattle.document.specs.Routine.{Routine, size, wire, is_rand, rands_before, routine_of, records_fit, operands_of, operands}
 use Rattle.data.proofs.Laws.Tests.{Mem}
 use Rattle.data.specs.declared.Kind.{Kind}
 use Rattle.data.specs.declared.Kind.TheVariants.{Share, Rand, Pub, Xor, And, Not}
@@ -26,14 +26,17 @@ one_shifted k h = shl_exact {a = 1} 1 k 64 (lit< tt) (omega arith) ∙ one-mul (
 
 -- ---- no wires
 
+-- no share cones
 pub no_shares : (R : Routine) → [] ≡ share_cones R 0
 unfolding share_cones built
 no_shares R = refl
 
+-- no random cones
 pub no_rands : (R : Routine) → [] ≡ rand_cones R 0
 unfolding rand_cones built
 no_rands R = refl
 
+-- no own randoms
 pub no_own : (R : Routine) → [] ≡ own_rands R 0
 unfolding own_rands built
 no_own R = refl
@@ -96,12 +99,22 @@ module _ (σ : Shape) (ws : List Wire) (fit : records_fit σ ws ≡ true) (w : �
   share_turn words bit v l e p q = built_more (cone_at R (share_bit R)) w words v l e (q ∙ ap (λ (b : ℕ). word_from b (record_at ws w) words) p
       ∙ cone_is (share_bit R) words e)
 
+  -- a wire's bit among the shares
+  pub share_bit_lem : cond (ltb w (σ.s * σ.d)) (2 ^ w) 0 ≡ share_bit R w
+  unfolding share_bit
+  share_bit_lem = refl
+
   -- the random cones with a wire more
   pub rand_turn : (words : List ℕ) (bit v : ℕ) → w < length words → take w words ≡ rand_cones R w → bit ≡ rand_bit R w → v ≡ word_from bit (record_at ws w) words
       → take (w + 1) (set words w v) ≡ rand_cones R (w + 1)
   unfolding rand_cones
   rand_turn words bit v l e p q = built_more (cone_at R (rand_bit R)) w words v l e (q ∙ ap (λ (b : ℕ). word_from b (record_at ws w) words) p
       ∙ cone_is (rand_bit R) words e)
+
+  -- a wire's bit among the randoms
+  pub rand_bit_lem : (j : ℕ) → j ≡ (counts_of w ws).rands → cond (is_rand (record_at ws w).kind) (2 ^ j) 0 ≡ rand_bit R w
+  unfolding rand_bit
+  rand_bit_lem j e = rw (wire_is σ ws w in-n, e, rands_is σ ws w (omega arith)) refl
 
   -- the own randoms with a wire more
   pub own_turn : (cones words : List ℕ) (j v : ℕ) → w < length words → take σ.n cones ≡ rand_cones R σ.n → take w words ≡ own_rands R w

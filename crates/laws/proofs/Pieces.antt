@@ -5,16 +5,19 @@ use Rattle.document.specs.Lines.{tab, lf, digit_zero, decimal, join}
 use Rattle.pieces.specs.Pieces.{numbers, line}
 use Rattle.pieces.proofs.Laws.Spelling.{join_line}
 
--- ---- a number of one digit, of two, and of three
+-- ---- numbers
 
+-- of one digit
 pub one_digit_lem : (n : ℕ) → n < 10 → decimal n ≡ (digit_zero + n) ∷ []
 unfolding decimal
 one_digit_lem n h = simp (lt-ltb n 10 h)
 
+-- of two
 pub two_digits : (n : ℕ) → 10 ≤ n → n < 100 → decimal n ≡ (digit_zero + n / 10) ∷ (digit_zero + n % 10) ∷ []
 unfolding decimal
 two_digits n l h = simp (le-ltb n 10 l, lt-ltb n 100 h)
 
+-- of three
 pub three_digits_lem : (n : ℕ) → 100 ≤ n → decimal n ≡ (digit_zero + n / 100) ∷ (digit_zero + n / 10 % 10) ∷ (digit_zero + n % 10) ∷ []
 unfolding decimal
 three_digits_lem n l = simp (le-ltb n 10 (omega arith), le-ltb n 100 l)
@@ -25,15 +28,17 @@ three_digits_lem n l = simp (le-ltb n 10 (omega arith), le-ltb n 100 l)
 pub join_2 : (word : List ℕ) (a b : ℕ) (t : List ℕ) → join tab (word ∷ decimal a ∷ decimal b ∷ []) ++ lf ∷ t ≡ line word (a ∷ b ∷ []) ++ t
 join_2 word a b t = join_line word (a ∷ b ∷ []) t
 
--- how long a line is
+-- how long a line of one number is
 pub line1_long : (word : List ℕ) (a : ℕ) → length (line word (a ∷ [])) ≡ length word + length (decimal a) + 2
 unfolding numbers
 line1_long word a = simp length-append (omega arith)
 
+-- of two
 pub line2_long : (word : List ℕ) (a b : ℕ) → length (line word (a ∷ b ∷ [])) ≡ length word + length (decimal a) + length (decimal b) + 3
 unfolding numbers
 line2_long word a b = simp length-append (omega arith)
 
+-- of three
 pub line3_long : (word : List ℕ) (a b c : ℕ)
     → length (line word (a ∷ b ∷ c ∷ [])) ≡ length word + length (decimal a) + length (decimal b) + length (decimal c) + 4
 unfolding numbers

@@ -7,10 +7,11 @@ use Rattle.document.proofs.Laws.Words.{word_lt}
 use Rattle.shares.specs.Words.{ones_of, some_over}
 use Rattle.shares.proofs.Laws.Words.{one_shl}
 
--- a bit that is set, as the code shifts it, and one that is not
+-- a bit that is set, as the code shifts it
 pub bit_on : (k : ℕ) → k < 64 → (1 * 2 ^ k) % 2 ^ 64 ≡ one true * 2 ^ k
 bit_on k h = one_shl k h ∙ sym (one-mul (2 ^ k))
 
+-- a bit that is not set
 pub bit_off : (k : ℕ) → 0 ≡ one false * 2 ^ k
 bit_off k = omega arith
 
