@@ -1,7 +1,7 @@
 -- One set of a judgement: what it is grown from, what is seen of it, and what became of it.
-use Rattle.std.specs.Prelude.{◌≡◌, Bool, true, false, not, cond, ◌≢◌, List, [], ◌∷◌, ◌++◌, ℕ, ◌+◌, ◌≤◌, ◌<◌, length, get_or, Result, Ok, Err}
+use Rattle.std.specs.Prelude.{◌≡◌, Bool, false, not, cond, ◌≢◌, List, [], ◌∷◌, ◌++◌, ℕ, ◌+◌, ◌≤◌, ◌<◌, length, get_or, Result, Ok, Err}
 use Rattle.data.specs.Basics.{keep}
-use Rattle.document.specs.Routine.{Routine, size, records_fit}
+use Rattle.document.specs.Routine.{Routine, size}
 use Rattle.data.specs.ProbeSets.{held, empty_set, set_of, Asc}
 use Rattle.document.specs.Judgements.{is_open, judgement_of}
 use Rattle.data.specs.declared.ProbeSet.{ProbeSet}
@@ -31,15 +31,11 @@ found k ps = Err (record { count = k; set = set_of ps })
 
 -- the routine in question
 abbrev pub routine_asked : Question → Routine
-routine_asked q = routine_in q.listing
+routine_asked q = routine_in q.listing.now
 
 -- its sets that are open
 abbrev pub opens_in : Question → List ℕ → Bool
 opens_in q = is_open (judgement_of q.which) (routine_asked q) q.t
-
--- its records are what a read could have given
-abbrev pub Fits : Question → Type 0
-Fits q = records_fit q.listing.shape q.listing.wires ≡ true
 
 -- the words of a growing set
 abbrev pub seen_of : Grown → Seen
@@ -96,6 +92,5 @@ bound_of Strong ws t ps = inner_of ws ps
 
 -- a set to be judged: it is whole, and no smaller set is open
 pub record Asked (q : Question) (g : Grown) : Type 0 where
-  pub fits : Fits q
-  pub grows : Grows (routine_asked q) q.listing.shape.n g
+  pub grows : Grows (routine_asked q) q.listing.now.shape.n g
   pub smaller : ClosedBelow q g.set.len

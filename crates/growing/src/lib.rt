@@ -1,20 +1,23 @@
 // One set of a judgement: how it is grown by a wire, and the bound of what it may need.
 #![tactic(auto)]
 
-ghost use Rattle.std.specs.Prelude.{◌≡◌, ◌∷◌, [], ◌++◌, ◌≤◌, ◌<◌, length};
+ghost use Rattle.std.specs.Prelude.{◌≡◌, ◌∷◌, [], ◌++◌, ◌≤◌, ◌<◌, true, length};
+ghost use Rattle.document.specs.Routine.{records_fit};
 ghost use Rattle.data.specs.ProbeSets.{held, set_of};
-ghost use Rattle.growing.specs.Growing.{nothing_grown, grown_by, Skipped, Holding, inner_of, bound_of};
+ghost use Rattle.cones.specs.Making.{TablesOf};
 
 use cones::Cone;
 use data::{Listing, ProbeSet, Which};
 
-// What a search goes by from its first set to its last: the judgement, the routine and the order.
-// Its cones are lent beside it, and not copied into it: they are made once for all sets.
+// What a search goes by from its first set to its last: the judgement, a routine that fits, the order, and the cones of its wires.
 #[derive(Clone, Copy)]
-pub struct Question {
+pub struct Question<'a> {
     pub which: Which,
-    pub listing: Listing,
+    pub listing: &'a Listing,
     pub t: usize,
+    pub cones: &'a [Cone],
+    pub ghost fits: { records_fit listing.now.shape listing.now.wires ≡ true },
+    pub ghost tables: { TablesOf listing.now.shape listing.now.wires cones.now },
 }
 
 // An open set that a search found, and how many sets were judged up to it.
@@ -45,6 +48,8 @@ fn with_last(set: ProbeSet, w: usize) -> ProbeSet
 }
 
 impl Grown {
+    ghost use Rattle.growing.specs.Growing.{nothing_grown, grown_by, Skipped};
+
     // The set without a wire yet.
     pub fn nothing() -> Grown
         ensures { result ≡ nothing_grown }
@@ -83,11 +88,13 @@ impl Grown {
     }
 }
 
-impl Question {
+impl Question<'_> {
+    ghost use Rattle.growing.specs.Growing.{Holding, inner_of, bound_of};
+
     // How many wires of the set are no outputs.
     fn inner_of(self, set: ProbeSet) -> usize
-        requires { Holding self.listing.shape.n self.listing.wires set }
-        ensures { result ≡ inner_of self.listing.wires (held set) }
+        requires { Holding self.listing.now.shape.n self.listing.now.wires set }
+        ensures { result ≡ inner_of self.entry.listing.now.wires (held set) }
     {
         let mut inner = 0;
         for w in &set.places[..set.len] {
@@ -100,8 +107,8 @@ impl Question {
 
     // What the needed shares of a secret may not exceed.
     pub fn bound_of(self, set: ProbeSet) -> usize
-        requires { Holding self.listing.shape.n self.listing.wires set }
-        ensures { result ≡ bound_of self.which self.listing.wires self.t (held set) }
+        requires { Holding self.listing.now.shape.n self.listing.now.wires set }
+        ensures { result ≡ bound_of self.entry.which self.entry.listing.now.wires self.entry.t (held set) }
     {
         match self.which {
             Which::Plain => self.t,

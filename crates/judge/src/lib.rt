@@ -1,24 +1,13 @@
 // The judgements: what is found among their sets, as an answer.
 #![tactic(auto)]
 
-ghost use Rattle.std.specs.Prelude.{◌≡◌, ◌≤◌};
+ghost use Rattle.std.specs.Prelude.{◌≡◌};
 ghost use Rattle.document.specs.Judgements.{judged_not, judgement_of};
 ghost use Rattle.document.specs.Lent.{lent_judged};
-ghost use Rattle.growing.specs.Growing.{opens_in, Fits};
-ghost use Rattle.searching.specs.Search.{found_up_to};
 ghost use Rattle.judge.specs.Answers.{answer_of};
 
 use data::{Judged, Listing, ProbeSet, Refusal, Verdict, Which};
 use growing::{Found, Question};
-
-// What is found among the sets of 1 to t wires.
-fn searched(q: Question) -> Result<u64, Found>
-    requires { (q.t ≤ 4) × Fits q }
-    ensures { result ≡ found_up_to (opens_in q) q.t q.listing.shape.n }
-{
-    let cones = cones::cones_of(q.listing);
-    searching::search_sizes(q, q.t, &cones)
-}
 
 #[tactic(auto, unfolding(crate::specs::Answers::answer_of))]
 fn answer_of(found: Result<u64, Found>) -> Judged
@@ -55,5 +44,12 @@ pub fn judge(listing: Listing, which: Which, t: usize) -> Judged
     if !asking::order_fits(listing.shape.d, t) {
         return refusal(Refusal::Order);
     }
-    answer_of(searched(Question { which, listing, t }))
+    let cones = cones::cones_of(listing);
+    let q = Question {
+        which,
+        listing: &listing,
+        t,
+        cones: &cones,
+    };
+    answer_of(searching::search_sizes(q, t))
 }

@@ -1,11 +1,9 @@
 -- Searching lists of sets for the first open one, and growing the sets one wire at a time.
 use Rattle.std.specs.Prelude.{Bool, cond, List, [], ◌∷◌, ◌++◌, ℕ, zero, suc, ◌+◌, ◌-◌, ◌^◌, ◌≤◌, ◌<◌, length, Ok, Err}
 use Rattle.document.specs.Judgements.{sets_of, sets_in_order}
-use Rattle.cones.specs.declared.Cone.{Cone}
-use Rattle.cones.specs.Making.{TablesOf}
 use Rattle.growing.specs.declared.Question.{Question}
 use Rattle.growing.specs.declared.Grown.{Grown}
-use Rattle.growing.specs.Growing.{Outcome, none, found, routine_asked, Fits, ClosedBelow, Grows}
+use Rattle.growing.specs.Growing.{Outcome, none, found, routine_asked, ClosedBelow, Grows}
 
 -- the first open set of the list, k sets judged before it
 unfoldable pub search : (List ℕ → Bool) → ℕ → List (List ℕ) → Outcome
@@ -28,11 +26,9 @@ unfoldable pub found_up_to : (List ℕ → Bool) → ℕ → ℕ → Outcome
 found_up_to opens k n = search opens 0 (sets_in_order k n)
 
 -- a set to be grown by `places` wires from `from` on, where `count` sets were judged before
-pub record Searching (q : Question) (cones : List Cone) (places from : ℕ) (g : Grown) (count : ℕ) : Type 0 where
-  pub fits : Fits q
-  pub tables : TablesOf q.listing.shape q.listing.wires cones
-  pub below : from ≤ q.listing.shape.n
+pub record Searching (q : Question) (places from : ℕ) (g : Grown) (count : ℕ) : Type 0 where
+  pub below : from ≤ q.listing.now.shape.n
   pub room : g.set.len + places ≤ 4
   pub grows : Grows (routine_asked q) from g
   pub smaller : ClosedBelow q (g.set.len + places)
-  pub counted : count + length (sets_of places (q.listing.shape.n - from) from) < 2 ^ 63
+  pub counted : count + length (sets_of places (q.listing.now.shape.n - from) from) < 2 ^ 63

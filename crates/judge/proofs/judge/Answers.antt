@@ -10,21 +10,16 @@ returns-then-not-records_fit c = let a = c.args in
     c.refusal.ensures ∙ not_records a.which a.listing.shape a.listing.wires a.t bad
 
 pub returns-then-not-order_fits : goal.returns-then-not-order_fits
-returns-then-not-order_fits c = let f = c in
-    let a = f.args in
-    let good = sym f.records_fit.ensures ∙ c.if-not-records_fit.false in
+returns-then-not-order_fits c = let a = c.args in
+    let good = sym c.records_fit.ensures ∙ c.if-not-records_fit.false in
     let bad = sym c.order_fits.ensures ∙ c.if-not-order_fits.true in
     c.refusal-then-not-order_fits.ensures ∙ not_order a.which a.listing.shape a.listing.wires a.t good bad
 
-pub searched-requires : goal.searched-requires
-searched-requires c = let good = sym c.records_fit.ensures ∙ c.if-not-records_fit.false in
-    let order = sym c.order_fits.ensures ∙ c.if-not-order_fits.false in
-    (order_high _ _ order, good)
+pub search_sizes-requires : goal.search_sizes-requires
+search_sizes-requires c = order_high _ _ (sym c.order_fits.ensures ∙ c.if-not-order_fits.false)
 
 pub returns : goal.returns
-returns c = let o = c in
-    let f = o in
-    let a = f.args in
-    let good = sym f.records_fit.ensures ∙ o.if-not-records_fit.false in
-    let order = sym o.order_fits.ensures ∙ c.if-not-order_fits.false in
-    judged_answer a.which a.listing.shape a.listing.wires a.t good order _ c.searched.ensures _ c.answer_of.ensures
+returns c = let a = c.args in
+    let good = sym c.records_fit.ensures ∙ c.if-not-records_fit.false in
+    let order = sym c.order_fits.ensures ∙ c.if-not-order_fits.false in
+    judged_answer a.which a.listing.shape a.listing.wires a.t good order _ c.search_sizes.ensures _ c.answer_of.ensures

@@ -56,10 +56,10 @@ module _ {q : Question} {g : Grown} (A : Asked q g) where
   ps = held g.set
 
   sound : Sound R
-  sound = fit_sound q.listing.shape q.listing.wires A.fits
+  sound = fit_sound q.listing.now.shape q.listing.now.wires q.fits
 
-  sized : size R ≡ q.listing.shape.n
-  sized = (fit_of q.listing.shape q.listing.wires A.fits).sized
+  sized : size R ≡ q.listing.now.shape.n
+  sized = (fit_of q.listing.now.shape q.listing.now.wires q.fits).sized
 
   ascends : Asc 0 (size R) ps
   ascends = subst (λ (m : ℕ). Asc 0 m ps) (sym sized) A.grows.ascends
@@ -72,16 +72,16 @@ module _ {q : Question} {g : Grown} (A : Asked q g) where
       (sees_from R sound [] unseen (sees_none R) ps (λ v m. asc_low 0 (size R) ps v ascends m))
 
   -- the wires of the set stand among the records
-  pub holding : Holding q.listing.shape.n q.listing.wires g.set
+  pub holding : Holding q.listing.now.shape.n q.listing.now.wires g.set
   unfolding set_of
   holding = record {
     four = A.grows.few;
     sized = ap (λ (x : ProbeSet). length x.places) A.grows.whole
         ∙ length-take-le 4 (ps ++ replicate 4 0) (let a = length-append ps (replicate 4 0) in
         let b : length {A = ℕ} (replicate 4 0) ≡ 4 = length-replicate {A = ℕ} 4 0 in omega arith);
-    few = (fit_of q.listing.shape q.listing.wires A.fits).few;
-    wires = λ v h. let l = long in let z = place_wire ps v q.listing.shape.n A.grows.ascends (omega arith) in
-        subst (λ (x : ℕ). x < q.listing.shape.n) (get_or-take g.set.len g.set.places v 0 h) z;
+    few = (fit_of q.listing.now.shape q.listing.now.wires q.fits).few;
+    wires = λ v h. let l = long in let z = place_wire ps v q.listing.now.shape.n A.grows.ascends (omega arith) in
+        subst (λ (x : ℕ). x < q.listing.now.shape.n) (get_or-take g.set.len g.set.places v 0 h) z;
   }
 
   pub low_probes : LowProbes g.set
@@ -91,21 +91,21 @@ module _ {q : Question} {g : Grown} (A : Asked q g) where
   own_open h = own_closed (judgement_of q.which) (steady_of q.which) R sound q.t ps ascends (seen_of g) sees h
       (λ qs a p l. A.smaller qs a p (let z = long in omega arith))
 
-  bound_of_lem : (b : ℕ) → b ≡ bound_of q.which q.listing.wires q.t ps → b ≡ (judgement_of q.which).bound R q.t ps
-  bound_of_lem b e = e ∙ bound_is q.which q.listing.shape q.listing.wires q.t ps A.grows.ascends
+  bound_of_lem : (b : ℕ) → b ≡ bound_of q.which q.listing.now.wires q.t ps → b ≡ (judgement_of q.which).bound R q.t ps
+  bound_of_lem b e = e ∙ bound_is q.which q.listing.now.shape q.listing.now.wires q.t ps A.grows.ascends
 
-  pub cones_open : (b : ℕ) → b ≡ bound_of q.which q.listing.wires q.t ps → g.cone.shares < 2 ^ 64
-      → some_over q.listing.shape.s q.listing.shape.d g.cone.shares b ≡ false → opens_in q ps ≡ false
+  pub cones_open : (b : ℕ) → b ≡ bound_of q.which q.listing.now.wires q.t ps → g.cone.shares < 2 ^ 64
+      → some_over q.listing.now.shape.s q.listing.now.shape.d g.cone.shares b ≡ false → opens_in q ps ≡ false
   unfolding some_over ones_of bits_of
   cones_open b e small o = cones_closed (judgement_of q.which) (steady_of q.which) R sound q.t ps ascends (seen_of g) sees small
-      (λ i i<S. let z = ltb_false b (ones (g.cone.shares / 2 ^ (i * q.listing.shape.d) % 2 ^ q.listing.shape.d))
-      (some_none q.listing.shape.s _ o i i<S) in let y = bound_of_lem b e in omega arith)
+      (λ i i<S. let z = ltb_false b (ones (g.cone.shares / 2 ^ (i * q.listing.now.shape.d) % 2 ^ q.listing.now.shape.d))
+      (some_none q.listing.now.shape.s _ o i i<S) in let y = bound_of_lem b e in omega arith)
 
-  pub run_open : (b word : ℕ) (probe : Marks) → b ≡ bound_of q.which q.listing.wires q.t ps → probe ≡ probed ps → word ≡ needed_by R probe
-      → some_over q.listing.shape.s q.listing.shape.d word b ≡ opens_in q ps
+  pub run_open : (b word : ℕ) (probe : Marks) → b ≡ bound_of q.which q.listing.now.wires q.t ps → probe ≡ probed ps → word ≡ needed_by R probe
+      → some_over q.listing.now.shape.s q.listing.now.shape.d word b ≡ opens_in q ps
   unfolding some_over ones_of is_open needed_of bits_of
   run_open b word probe e m u =
       let w : word ≡ needed_shares R ps = u ∙ ap (needed_by R) m ∙ needed_is R ps in
-      ap₂ (λ (c v : ℕ). some q.listing.shape.s (λ i. ltb c (ones (v / 2 ^ (i * q.listing.shape.d) % 2 ^ q.listing.shape.d)))) (bound_of_lem b e) w
-      ∙ ap (λ (qs : List ℕ). some q.listing.shape.s (λ i. ltb ((judgement_of q.which).bound R q.t ps) (needed_of R qs i)))
+      ap₂ (λ (c v : ℕ). some q.listing.now.shape.s (λ i. ltb c (ones (v / 2 ^ (i * q.listing.now.shape.d) % 2 ^ q.listing.now.shape.d)))) (bound_of_lem b e) w
+      ∙ ap (λ (qs : List ℕ). some q.listing.now.shape.s (λ i. ltb ((judgement_of q.which).bound R q.t ps) (needed_of R qs i)))
       (sym ((steady_of q.which).watches R ps))

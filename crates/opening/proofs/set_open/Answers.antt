@@ -12,7 +12,7 @@ pub bound_of-bound-requires : goal.bound_of-bound-requires
 bound_of-bound-requires c = holding c.requires
 
 pub over-requires : goal.over-requires
-over-requires c = shares_of _ _ c.requires.fits
+over-requires c = shares_of _ _ c.args.q.fits
 
 pub returns-then-not-over : goal.returns-then-not-over
 returns-then-not-over c = sym (cones_open c.requires _ c.bound_of-bound.ensures (omega arith)
@@ -23,12 +23,12 @@ probe_marks-requires c = low_probes c.requires
 
 pub needed_word-needed-requires : goal.needed_word-needed-requires
 needed_word-needed-requires c = (
-  wired_of _ _ c.requires.fits,
-  shares_of _ _ c.requires.fits,
+  wired_of _ _ c.args.q.fits,
+  shares_of _ _ c.args.q.fits,
 )
 
 pub over-requires-2 : goal.over-requires-2
-over-requires-2 c = shares_of _ _ c.requires.fits
+over-requires-2 c = shares_of _ _ c.args.q.fits
 
 pub returns : goal.returns
 returns c = c.over-2.ensures ∙ run_open c.requires _ _ _

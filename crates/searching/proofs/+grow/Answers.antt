@@ -13,7 +13,7 @@ judge_set-requires t c = (leaf_asked c.requires c.if-places-eq0.true, leaf_count
 
 pub returns-then-places-eq0 : goal.returns-then-places-eq0
 returns-then-places-eq0 t c = let a = c.args in c.judge_set.ensures
-    ∙ sym (grow_leaf (opens_in a.q) a.places (a.q.listing.shape.n - a.from) a.from (held a.g.set) a.count c.if-places-eq0.true)
+    ∙ sym (grow_leaf (opens_in a.q) a.places (a.q.listing.now.shape.n - a.from) a.from (held a.g.set) a.count c.if-places-eq0.true)
 
 pub overflow_add-passed : goal.overflow_add-passed
 overflow_add-passed t c = let z = (reached c.requires c.next_wire-at.ensures).counted in omega arith

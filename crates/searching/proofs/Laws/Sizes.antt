@@ -14,13 +14,11 @@ use Rattle.document.specs.Judgements.{sets_of, sets_in_order, NoneOpen}
 use Rattle.data.specs.Basics.{Among}
 use Rattle.document.proofs.Laws.Sets.{sets←, sets_below, in_order_below}
 use Rattle.records.proofs.Laws.Fitting.{fit_of}
-use Rattle.cones.specs.declared.Cone.{Cone}
-use Rattle.cones.specs.Making.{TablesOf}
 use Rattle.cones.specs.Seen.{see_all}
 use Rattle.growing.specs.declared.Question.{Question}
 use Rattle.growing.specs.declared.Found.{Found}
 use Rattle.growing.specs.declared.Grown.{Grown}
-use Rattle.growing.specs.Growing.{Outcome, none, found, routine_asked, opens_in, Fits, nothing_grown, ClosedBelow}
+use Rattle.growing.specs.Growing.{Outcome, none, found, routine_asked, opens_in, nothing_grown, ClosedBelow}
 use Rattle.searching.specs.Search.{search, on_from, grow, found_up_to, Searching}
 use Rattle.searching.proofs.Laws.Search.{search_append, grow_sets}
 use Rattle.searching.proofs.Laws.Turns.{search_all}
@@ -76,28 +74,26 @@ module _ (opens : List ℕ → Bool) where
 -- ---- a search of one size
 
 -- where no set of 1 to k wires is open, no set of fewer than k + 1 is
-closed_below : (q : Question) (k c : ℕ) → size (routine_asked q) ≡ q.listing.shape.n → found_up_to (opens_in q) k q.listing.shape.n ≡ Ok c
+closed_below : (q : Question) (k c : ℕ) → size (routine_asked q) ≡ q.listing.now.shape.n → found_up_to (opens_in q) k q.listing.now.shape.n ≡ Ok c
     → ClosedBelow q (k + 1)
 unfolding found_up_to
-closed_below q k c e f ps a p l = search_closed (opens_in q) 0 (sets_in_order k q.listing.shape.n) c f ps
-    (sets← k q.listing.shape.n ps (subst (λ (m : ℕ). Asc 0 m ps) e a) p (omega arith))
+closed_below q k c e f ps a p l = search_closed (opens_in q) 0 (sets_in_order k q.listing.now.shape.n) c f ps
+    (sets← k q.listing.now.shape.n ps (subst (λ (m : ℕ). Asc 0 m ps) e a) p (omega arith))
 
 -- no set of 1 to k wires is open, c sets were judged, and the next size grows from g
-module _ (q : Question) (k c : ℕ) (e : Ok c ≡ found_up_to (opens_in q) k q.listing.shape.n) (g : Grown) (b : g ≡ nothing_grown) where
-  pub size_asked : Fits q → (cones : List Cone) → TablesOf q.listing.shape q.listing.wires cones → k < 4 → Searching q cones (k + 1) 0 g c
+module _ (q : Question) (k c : ℕ) (e : Ok c ≡ found_up_to (opens_in q) k q.listing.now.shape.n) (g : Grown) (b : g ≡ nothing_grown) where
+  pub size_asked : k < 4 → Searching q (k + 1) 0 g c
   unfolding set_of see_all
-  size_asked fit cones tables h =
-      let fi = fit_of q.listing.shape q.listing.wires fit in
-      subst (λ (y : Grown). Searching q cones (k + 1) 0 y c) (sym b) (record {
-        fits = fit;
-        tables = tables;
+  size_asked h =
+      let fi = fit_of q.listing.now.shape q.listing.now.wires q.fits in
+      subst (λ (y : Grown). Searching q (k + 1) 0 y c) (sym b) (record {
         below = omega arith;
         room = omega arith;
         grows = record { whole = refl; few = omega arith; ascends = tt; seen = refl };
         smaller = λ qs a p l. closed_below q k c fi.sized (sym e) qs a p (omega arith);
-        counted = found_few (opens_in q) k q.listing.shape.n c e h fi.few;
+        counted = found_few (opens_in q) k q.listing.now.shape.n c e h fi.few;
       })
 
-  pub size_found : (y : Outcome) → y ≡ grow (opens_in q) (k + 1) (q.listing.shape.n - 0) 0 (held g.set) c → y ≡ found_up_to (opens_in q) (k + 1) q.listing.shape.n
-  size_found y u = found_more (opens_in q) k q.listing.shape.n c y e (u
-      ∙ ap (λ (z : Grown). grow (opens_in q) (k + 1) (q.listing.shape.n - 0) 0 (held z.set) c) b)
+  pub size_found : (y : Outcome) → y ≡ grow (opens_in q) (k + 1) (q.listing.now.shape.n - 0) 0 (held g.set) c → y ≡ found_up_to (opens_in q) (k + 1) q.listing.now.shape.n
+  size_found y u = found_more (opens_in q) k q.listing.now.shape.n c y e (u
+      ∙ ap (λ (z : Grown). grow (opens_in q) (k + 1) (q.listing.now.shape.n - 0) 0 (held z.set) c) b)

@@ -109,22 +109,21 @@ asc_last lo k (p ∷ ps) h a = let z = a.1 in (a.0, omega arith, asc_last (suc p
 
 -- ---- a set to be grown
 
-module _ {q : Question} {cones : List Cone} {places from : ℕ} {g : Grown} {count : ℕ} (S : Searching q cones places from g count) where
+module _ {q : Question} {places from : ℕ} {g : Grown} {count : ℕ} (S : Searching q places from g count) where
   abbrev R : Routine
   R = routine_asked q
 
   abbrev n : ℕ
-  n = q.listing.shape.n
+  n = q.listing.now.shape.n
 
   sized : size R ≡ n
-  sized = (fit_of q.listing.shape q.listing.wires S.fits).sized
+  sized = (fit_of q.listing.now.shape q.listing.now.wires q.fits).sized
 
   pub few_wires : n ≤ 128
-  few_wires = (fit_of q.listing.shape q.listing.wires S.fits).few
+  few_wires = (fit_of q.listing.now.shape q.listing.now.wires q.fits).few
 
   pub leaf_asked : places ≡ 0 → Asked q g
   leaf_asked e = record {
-    fits = S.fits;
     grows = record {
       whole = S.grows.whole;
       few = S.grows.few;
@@ -146,10 +145,10 @@ module _ {q : Question} {cones : List Cone} {places from : ℕ} {g : Grown} {cou
       let a = length-append (held g.set) (from ∷ []) in
       held_of (held g.set ++ (from ∷ [])) (omega arith)
 
-  seen_grown : from < n → seen_of (grown_by g from (get_or cones from unseen)) ≡ see_all R unseen (held g.set ++ (from ∷ []))
+  seen_grown : from < n → seen_of (grown_by g from (get_or q.cones.now from unseen)) ≡ see_all R unseen (held g.set ++ (from ∷ []))
   unfolding grown_by see_wire
   seen_grown h =
-      ap (λ (c : Cone). see (seen_of g) c.shares c.rands c.own) (S.tables.each from h) ∙ ap (λ (z : Seen). see_wire R z from) S.grows.seen
+      ap (λ (c : Cone). see (seen_of g) c.shares c.rands c.own) (q.tables.each from h) ∙ ap (λ (z : Seen). see_wire R z from) S.grows.seen
       ∙ sym (see_more R unseen (held g.set) from)
 
   grown_len : (cone : Cone) → (grown_by g from cone).set.len ≡ g.set.len + 1
@@ -161,17 +160,15 @@ module _ {q : Question} {cones : List Cone} {places from : ℕ} {g : Grown} {cou
   grown_whole h cone = sym (ap set_of (held_grown h cone))
 
   -- with the next wire
-  pub taken_next : 0 < places → from < n → (more : Grown) → more ≡ grown_by g from (get_or cones from unseen) → Searching q cones (places - 1) (from + 1) more count
+  pub taken_next : 0 < places → from < n → (more : Grown) → more ≡ grown_by g from (get_or q.cones.now from unseen) → Searching q (places - 1) (from + 1) more count
   taken_next h l more e =
-      let cone = get_or cones from unseen in
+      let cone = get_or q.cones.now from unseen in
       let len = grown_len cone in
       let room = S.room in
       let counted = S.counted in
       let on = sets_on places n from h l in
       let hg = held_grown h cone in
-      subst (λ (x : Grown). Searching q cones (places - 1) (from + 1) x count) (sym e) (record {
-        fits = S.fits;
-        tables = S.tables;
+      subst (λ (x : Grown). Searching q (places - 1) (from + 1) x count) (sym e) (record {
         below = omega arith;
         room = omega arith;
         grows = record {
@@ -186,13 +183,11 @@ module _ {q : Question} {cones : List Cone} {places from : ℕ} {g : Grown} {cou
 
   -- with the next wire passed over
   pub passed_over : 0 < places → from < n → (k : ℕ) → k ≤ count + length (sets_of (places - 1) (n - (from + 1)) (from + 1))
-      → Searching q cones places (from + 1) g k
+      → Searching q places (from + 1) g k
   passed_over h l k c =
       let counted = S.counted in
       let on = sets_on places n from h l in
       record {
-        fits = S.fits;
-        tables = S.tables;
         below = omega arith;
         room = S.room;
         grows = record {

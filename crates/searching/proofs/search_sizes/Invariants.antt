@@ -5,4 +5,4 @@ use Rattle.searching.specs.Search.{found_up_to}
 use Rattle.searching.proofs.search_sizes.Given as goal
 
 abbrev pub invariant-loop-size : goal.invariant-loop-size
-invariant-loop-size l = Ok l.count ≡ found_up_to (opens_in l.q) l.size l.q.listing.shape.n
+invariant-loop-size l = Ok l.count ≡ found_up_to (opens_in l.q) l.size l.q.listing.now.shape.n

@@ -12,12 +12,12 @@ pub loop-w-preserved : goal.loop-w-preserved
 loop-w-preserved c = let v = c.loop-w.invariant in let h = c.loop-w-test.true in elim c.if-not-self-from.branch [
   | then-not-self-from w ↦ record {
     few = omega arith;
-    counted = w.inner-is ∙ inner_counts c.args.self.listing.wires (held c.args.set) c.loop-w.w-index c.loop-w.inner h v.counted
+    counted = w.inner-is ∙ inner_counts c.args.self.listing.now.wires (held c.args.set) c.loop-w.w-index c.loop-w.inner h v.counted
         (rw c.from.ensures at (ap not w.if-not-self-from.true));
   }
   | else-not-self-from w ↦ record {
     few = omega arith;
-    counted = w.inner-is ∙ inner_stays c.args.self.listing.wires (held c.args.set) c.loop-w.w-index c.loop-w.inner h v.counted
+    counted = w.inner-is ∙ inner_stays c.args.self.listing.now.wires (held c.args.set) c.loop-w.w-index c.loop-w.inner h v.counted
         (rw c.from.ensures at (ap not w.if-not-self-from.false));
   }
 ]

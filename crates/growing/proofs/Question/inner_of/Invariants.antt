@@ -6,5 +6,5 @@ use Rattle.growing.proofs.Question.inner_of.Given as goal
 abbrev pub invariant-loop-w : goal.invariant-loop-w
 invariant-loop-w l = record {
   few : l.inner ≤ l.w-index;
-  counted : l.inner ≡ inner_of l.fn.self.listing.wires (take l.w-index l.w-items);
+  counted : l.inner ≡ inner_of l.fn.self.listing.now.wires (take l.w-index l.w-items);
 }
