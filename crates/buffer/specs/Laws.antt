@@ -4,7 +4,7 @@ use Rattle.std.proofs.Common.{ap, ◌∙◌, arith, length-append}
 use Rattle.std.proofs.lemmas.List.Edits.{sets}
 use Rattle.std.proofs.Math.Seq.{length-sets}
 use Rattle.buffer.specs.Put.{wrote, Put}
-use Rattle.buffer.specs.Sinks.{Puts, page_room, Counts, count_room, SinkLaws}
+use Rattle.buffer.specs.Sinks.{Puts, page_room, Counted, count_room, SinkLaws}
 use Rattle.buffer.specs.declared.Page.{Page}
 
 sets_more : (v w b : List ℕ) (i j : ℕ) → j ≡ i + length v → sets (sets b i v) j w ≡ sets b i (v ++ w)
@@ -38,7 +38,7 @@ page_laws = record {
   left = puts_left;
 }
 
-pub count_laws : SinkLaws Counts count_room
+pub count_laws : SinkLaws Counted count_room
 count_laws = record {
   none = record { next = omega arith };
   then = λ {p} {q} {r} {xs} {ys} a b. record { next = omega (arith, length-append xs ys, a.next, b.next) };

@@ -14,7 +14,7 @@ abbrev pub page_room : Page → ℕ
 page_room p = length p.bytes.now - p.at
 
 -- the bytes xs were counted
-pub record Counts (p : Count) (xs : List ℕ) (q : Count) : Type 0 where
+pub record Counted (p : Count) (xs : List ℕ) (q : Count) : Type 0 where
   pub next : q.len ≡ p.len + length xs
 
 -- a count stays below 2 to the 16

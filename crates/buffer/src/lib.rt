@@ -3,7 +3,7 @@
 
 ghost use Rattle.std.specs.Prelude.{◌≡◌, ◌∷◌, [], ◌+◌, ◌≤◌, ◌<◌, List, ℕ, length};
 ghost use Rattle.document.specs.Desk.{printed};
-ghost use Rattle.buffer.specs.Sinks.{Puts, page_room, Counts, count_room, SinkLaws};
+ghost use Rattle.buffer.specs.Sinks.{Puts, page_room, Counted, count_room, SinkLaws};
 ghost use Rattle.buffer.specs.Laws.{page_laws, count_laws};
 
 // What bytes are put into.
@@ -56,7 +56,7 @@ pub struct Count {
 }
 
 impl Sink for Count {
-    ghost puts = { Counts };
+    ghost puts = { Counted };
 
     ghost room = { count_room };
 

@@ -18,15 +18,15 @@ use Rattle.growing.specs.declared.Found.{Found}
 use Rattle.document.specs.Reading.{routine_in}
 
 -- what a search comes to: the count of the sets judged where none was open, or the open set that it found
-abbrev pub Outcome : Type 0
-Outcome = Result ℕ Found
+abbrev pub Searched : Type 0
+Searched = Result ℕ Found
 
 -- nothing found, k sets judged
-abbrev pub none : ℕ → Outcome
+abbrev pub none : ℕ → Searched
 none k = Ok k
 
 -- this set found, as the k-th judged
-abbrev pub found : ℕ → List ℕ → Outcome
+abbrev pub found : ℕ → List ℕ → Searched
 found k ps = Err (record { count = k; set = set_of ps })
 
 -- the routine in question
@@ -60,7 +60,7 @@ pub record Skipped (places from n : ℕ) (cones : List Cone) (z : Cone) (r : ℕ
   pub spared : (v : ℕ) → from ≤ v → v < r → (places ≡ 1) × (own_of_both z (get_or cones v unseen) ≢ 0)
 
 -- the set judged as one set more
-abbrev pub judged_set : (List ℕ → Bool) → List ℕ → ℕ → Outcome
+abbrev pub judged_set : (List ℕ → Bool) → List ℕ → ℕ → Searched
 judged_set opens ps k = cond (opens ps) (found (k + 1) ps) (none (k + 1))
 
 -- no set of fewer than k wires is open

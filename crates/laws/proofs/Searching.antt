@@ -3,12 +3,12 @@ use Rattle.std.specs.Prelude.{Bool, true, false, cond, List, [], ◌∷◌, ◌+
 use Rattle.std.proofs.Common.{ap, arith}
 use Rattle.std.proofs.lemmas.List.{length-map}
 use Rattle.document.specs.Judgements.{sets_of}
-use Rattle.growing.specs.Growing.{Outcome, found}
+use Rattle.growing.specs.Growing.{Searched, found}
 use Rattle.searching.specs.Search.{search, grow}
 use Rattle.searching.proofs.Laws.Search.{grow_is}
 
 -- the sets judged, where none was open and where one was found
-abbrev pub judged_count : Outcome → ℕ
+abbrev pub judged_count : Searched → ℕ
 judged_count (Ok c) = c
 judged_count (Err f) = f.count
 

@@ -15,7 +15,7 @@ use Rattle.data.specs.declared.Which.{Which}
 use Rattle.data.specs.declared.Which.TheVariants.{Plain, Strong}
 use Rattle.records.proofs.Laws.Fitting.{fit_of}
 use Rattle.asking.specs.Checks.{order_in}
-use Rattle.growing.specs.Growing.{Outcome, found}
+use Rattle.growing.specs.Growing.{Searched, found}
 use Rattle.searching.specs.Search.{search, found_up_to}
 use Rattle.judge.specs.Answers.{answer_of}
 
@@ -55,7 +55,7 @@ module _ (which : Which) (σ : Shape) (ws : List Wire) (t : ℕ) where
   unfolding lent_judged lent judged order_fits order_in
   not_order e o = let p = fit_parts e in simp (p.0, p.1, o)
 
-  pub judged_answer : records_fit σ ws ≡ true → order_in σ.d t ≡ true → (x : Outcome) → x ≡ found_up_to opens t σ.n
+  pub judged_answer : records_fit σ ws ≡ true → order_in σ.d t ≡ true → (x : Searched) → x ≡ found_up_to opens t σ.n
       → (r : Judged) → r ≡ answer_of x
       → r ≡ lent_judged (judgement_of which) σ ws t
   unfolding lent_judged lent judged order_fits order_in judgement sets_judged found_up_to

@@ -18,7 +18,7 @@ use Rattle.cones.specs.Seen.{see_all}
 use Rattle.growing.specs.declared.Question.{Question}
 use Rattle.growing.specs.declared.Found.{Found}
 use Rattle.growing.specs.declared.Grown.{Grown}
-use Rattle.growing.specs.Growing.{Outcome, none, found, routine_asked, opens_in, nothing_grown, ClosedBelow}
+use Rattle.growing.specs.Growing.{Searched, none, found, routine_asked, opens_in, nothing_grown, ClosedBelow}
 use Rattle.searching.specs.Search.{search, on_from, grow, found_up_to, Searching}
 use Rattle.searching.proofs.Laws.Search.{search_append, grow_sets}
 use Rattle.searching.proofs.Laws.Turns.{search_all}
@@ -46,20 +46,20 @@ module _ (opens : List ℕ → Bool) where
   up_suc k n = search_append opens 0 (sets_in_order k n) (sets_of (suc k) n 0)
 
   -- a size more, where nothing was found
-  pub found_more : (k n c : ℕ) (y : Outcome) → Ok c ≡ found_up_to opens k n → y ≡ grow opens (k + 1) (n - 0) 0 [] c → y ≡ found_up_to opens (k + 1) n
+  pub found_more : (k n c : ℕ) (y : Searched) → Ok c ≡ found_up_to opens k n → y ≡ grow opens (k + 1) (n - 0) 0 [] c → y ≡ found_up_to opens (k + 1) n
   unfolding on_from
   found_more k n c y e q =
       let z : n - 0 ≡ n = omega arith in
       let p : suc k ≡ k + 1 = omega arith in
       q ∙ ap (λ (m : ℕ). grow opens (k + 1) m 0 [] c) z ∙ grow_sets opens (k + 1) n c
       ∙ ap (λ (j : ℕ). search opens c (sets_of j n 0)) (sym p)
-      ∙ ap (λ (w : Outcome). on_from w (λ j. search opens j (sets_of (suc k) n 0))) e ∙ sym (up_suc k n) ∙ ap (λ (j : ℕ). found_up_to opens j n) p
+      ∙ ap (λ (w : Searched). on_from w (λ j. search opens j (sets_of (suc k) n 0))) e ∙ sym (up_suc k n) ∙ ap (λ (j : ℕ). found_up_to opens j n) p
 
   -- what is found stays found
   pub found_stays : (k n m : ℕ) (o : Found) → k ≤ m → Err o ≡ found_up_to opens k n → Err o ≡ found_up_to opens m n
   unfolding on_from
   found_stays k n m o h e = le_ind (λ (j : ℕ). Err o ≡ found_up_to opens j n) e
-      (λ j l i. ap (λ (w : Outcome). on_from w (λ i. search opens i (sets_of (suc j) n 0))) i ∙ sym (up_suc j n)) m h
+      (λ j l i. ap (λ (w : Searched). on_from w (λ i. search opens i (sets_of (suc j) n 0))) i ∙ sym (up_suc j n)) m h
 
   pub found_few : (k n c : ℕ) → Ok c ≡ found_up_to opens k n → k < 4 → n ≤ 128 → c + length (sets_of (k + 1) (n - 0) 0) < 2 ^ 63
   unfolding found_up_to
@@ -94,6 +94,6 @@ module _ (q : Question) (k c : ℕ) (e : Ok c ≡ found_up_to (opens_in q) k q.l
         counted = found_few (opens_in q) k q.listing.now.shape.n c e h fi.few;
       })
 
-  pub size_found : (y : Outcome) → y ≡ grow (opens_in q) (k + 1) (q.listing.now.shape.n - 0) 0 (held g.set) c → y ≡ found_up_to (opens_in q) (k + 1) q.listing.now.shape.n
+  pub size_found : (y : Searched) → y ≡ grow (opens_in q) (k + 1) (q.listing.now.shape.n - 0) 0 (held g.set) c → y ≡ found_up_to (opens_in q) (k + 1) q.listing.now.shape.n
   size_found y u = found_more (opens_in q) k q.listing.now.shape.n c y e (u
       ∙ ap (λ (z : Grown). grow (opens_in q) (k + 1) (q.listing.now.shape.n - 0) 0 (held z.set) c) b)

@@ -10,7 +10,7 @@ use Rattle.growing.specs.declared.Question.{Question}
 use Rattle.growing.specs.declared.Found.{Found}
 use Rattle.growing.specs.declared.Grown.{Grown}
 use Rattle.cones.specs.Seen.{see, unseen}
-use Rattle.growing.specs.Growing.{Outcome, none, found, opens_in, own_of_both, grown_by, Skipped, Asked}
+use Rattle.growing.specs.Growing.{Searched, none, found, opens_in, own_of_both, grown_by, Skipped, Asked}
 use Rattle.searching.specs.Search.{grow, Searching}
 use Rattle.searching.proofs.Laws.Turns.{grow_leaf, grow_end, grow_hit, grow_miss, grow_count, sets_leaf, leaf_asked, held_grown, taken_next, passed_over}
 use Rattle.opening.proofs.Laws.Leaf.{own_open}
@@ -25,7 +25,7 @@ module _ (q : Question) (places : ℕ) (g : Grown) where
   abbrev Search : ℕ → ℕ → Type 0
   Search v k = Searching q places v g k
 
-  abbrev sought : ℕ → ℕ → Outcome
+  abbrev sought : ℕ → ℕ → Searched
   sought v k = grow opens places (n - v) v (held g.set) k
 
   -- one wire
@@ -78,7 +78,7 @@ module _ {q : Question} {places from : ℕ} {g : Grown} {count r : ℕ} (S : Sea
   abbrev j : ℕ
   j = count + (r - from)
 
-  abbrev here : Outcome
+  abbrev here : Searched
   here = grow (opens_in q) places (q.listing.now.shape.n - from) from (held g.set) count
 
   pub reached : Searching q places r g j
@@ -92,14 +92,14 @@ module _ {q : Question} {places from : ℕ} {g : Grown} {count r : ℕ} (S : Sea
   turn_end h l = sym (same ∙ grow_end (opens_in q) places q.listing.now.shape.n r (held g.set) j h l)
 
   module _ (h : 0 < places) (l : r < q.listing.now.shape.n) (more : Grown) (m : more ≡ grown_by g r (get_or q.cones.now r unseen)) where
-    abbrev deeper : List ℕ → Outcome
+    abbrev deeper : List ℕ → Searched
     deeper ps = grow (opens_in q) (places - 1) (q.listing.now.shape.n - (r + 1)) (r + 1) ps j
 
     -- with wire r
     pub turn_more : Searching q (places - 1) (r + 1) more j
     turn_more = taken_next reached h l more m
 
-    module _ (x : Outcome) (e : x ≡ deeper (held more.set)) where
+    module _ (x : Searched) (e : x ≡ deeper (held more.set)) where
       found_with : x ≡ deeper (held g.set ++ (r ∷ []))
       found_with = e ∙ ap (λ (y : Grown). deeper (held y.set)) m ∙ ap deeper (held_grown reached h _)
 
@@ -112,5 +112,5 @@ module _ {q : Question} {places from : ℕ} {g : Grown} {count r : ℕ} (S : Sea
           let b = grow_count (opens_in q) (places - 1) (q.listing.now.shape.n - (r + 1)) (r + 1) (held g.set ++ (r ∷ [])) j c (sym found_with ∙ t) in
           passed_over reached h l c (omega arith)
 
-      pub turn_miss : (c : ℕ) → x ≡ Ok c → (y : Outcome) → y ≡ grow (opens_in q) places (q.listing.now.shape.n - (r + 1)) (r + 1) (held g.set) c → y ≡ here
+      pub turn_miss : (c : ℕ) → x ≡ Ok c → (y : Searched) → y ≡ grow (opens_in q) places (q.listing.now.shape.n - (r + 1)) (r + 1) (held g.set) c → y ≡ here
       turn_miss c t y f = grow_miss (opens_in q) places q.listing.now.shape.n r (held g.set) j h l c y (sym t ∙ found_with) f ∙ sym same

@@ -19,7 +19,7 @@ use Rattle.cones.proofs.Laws.Seen.{see_more}
 use Rattle.growing.specs.declared.Question.{Question}
 use Rattle.growing.specs.declared.Found.{Found}
 use Rattle.growing.specs.declared.Grown.{Grown}
-use Rattle.growing.specs.Growing.{Outcome, none, found, routine_asked, seen_of, grown_by, judged_set, Asked}
+use Rattle.growing.specs.Growing.{Searched, none, found, routine_asked, seen_of, grown_by, judged_set, Asked}
 use Rattle.searching.specs.Search.{search, on_from, grow, Searching}
 use Rattle.searching.proofs.Laws.Search.{grow_is}
 use Rattle.growing.proofs.Laws.Growing.{held_of, held_length}
@@ -60,13 +60,13 @@ module _ (opens : List ℕ → Bool) where
   pub grow_hit : (p n f : ℕ) (s : List ℕ) (k : ℕ) → 0 < p → f < n → (o : Found) → Err o ≡ grow opens (p - 1) (n - (f + 1)) (f + 1) (s ++ (f ∷ [])) k
       → Err o ≡ grow opens p (n - f) f s k
   unfolding on_from
-  grow_hit p n f s k h l o e = ap (λ (y : Outcome). on_from y (λ j. grow opens p (n - (f + 1)) (f + 1) s j)) e ∙ sym (grow_on p n f s k h l)
+  grow_hit p n f s k h l o e = ap (λ (y : Searched). on_from y (λ j. grow opens p (n - (f + 1)) (f + 1) s j)) e ∙ sym (grow_on p n f s k h l)
 
   -- not found with the next wire
-  pub grow_miss : (p n f : ℕ) (s : List ℕ) (k : ℕ) → 0 < p → f < n → (c : ℕ) (y : Outcome) → Ok c ≡ grow opens (p - 1) (n - (f + 1)) (f + 1) (s ++ (f ∷ [])) k
+  pub grow_miss : (p n f : ℕ) (s : List ℕ) (k : ℕ) → 0 < p → f < n → (c : ℕ) (y : Searched) → Ok c ≡ grow opens (p - 1) (n - (f + 1)) (f + 1) (s ++ (f ∷ [])) k
       → y ≡ grow opens p (n - (f + 1)) (f + 1) s c → y ≡ grow opens p (n - f) f s k
   unfolding on_from
-  grow_miss p n f s k h l c y e q = q ∙ ap (λ (z : Outcome). on_from z (λ j. grow opens p (n - (f + 1)) (f + 1) s j)) e ∙ sym (grow_on p n f s k h l)
+  grow_miss p n f s k h l c y e q = q ∙ ap (λ (z : Searched). on_from z (λ j. grow opens p (n - (f + 1)) (f + 1) s j)) e ∙ sym (grow_on p n f s k h l)
 
   -- where none is open, all are judged
   pub search_all : (k : ℕ) (ss : List (List ℕ)) (c : ℕ) → search opens k ss ≡ Ok c → c ≡ k + length ss
