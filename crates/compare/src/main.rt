@@ -142,31 +142,45 @@ fn compare_spoiled(t: &mut Tally, g: &Listing, seed: u64) {
     sets::compare_sets(t, &h, seed, 1);
 }
 
-fn compare_small(out: &mut impl Write, t: &mut Tally, seed: u64) -> io::Result<()> {
+// What `calls` counts of a routine, and its text where answers differ in it.
+fn watched<F: FnOnce(&mut Tally)>(
+    out: &mut impl Write,
+    t: &mut Tally,
+    g: &Listing,
+    calls: F,
+) -> io::Result<()>
+    requires { F.IsAlwaysCallable calls }
+{
     let before = *t;
+    calls(t);
+    show(out, &before, t, g)
+}
+
+fn compare_small(out: &mut impl Write, t: &mut Tally, seed: u64) -> io::Result<()> {
     let g = inverting::routine(chance::draw(seed, 8));
-    compare_calls(t, &g, seed, 10);
-    judged::compare_orders(t, &g, seed);
-    sets::compare_draws(t, &g, chance::draw(seed, 11), 20);
-    show(out, &before, t, &g)
+    watched(out, t, &g, |t: &mut Tally| {
+        compare_calls(t, &g, seed, 10);
+        judged::compare_orders(t, &g, seed);
+        sets::compare_draws(t, &g, chance::draw(seed, 11), 20);
+    })
 }
 
 // Routines up to the ceilings are judged at order 1 only; order 5 is refused also where D is above it.
 fn compare_large(out: &mut impl Write, t: &mut Tally, seed: u64) -> io::Result<()> {
-    let before = *t;
     let g = inverting::large(chance::draw(seed, 9));
-    compare_calls(t, &g, seed, 4);
-    judged::compare_order(t, &spoiling::spoiled(g, seed), 1);
-    judged::compare_order(t, &g, 5);
-    show(out, &before, t, &g)
+    watched(out, t, &g, |t: &mut Tally| {
+        compare_calls(t, &g, seed, 4);
+        judged::compare_order(t, &spoiling::spoiled(g, seed), 1);
+        judged::compare_order(t, &g, 5);
+    })
 }
 
 fn compare_crowded(out: &mut impl Write, t: &mut Tally, seed: u64) -> io::Result<()> {
-    let before = *t;
     let g = making::crowded(chance::draw(seed, 10));
-    compare_calls(t, &g, seed, 2);
-    texts::compare_next(t, g);
-    show(out, &before, t, &g)
+    watched(out, t, &g, |t: &mut Tally| {
+        compare_calls(t, &g, seed, 2);
+        texts::compare_next(t, g);
+    })
 }
 
 fn compare_all(out: &mut impl Write, t: &mut Tally) -> io::Result<()> {

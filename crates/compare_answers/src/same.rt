@@ -4,7 +4,7 @@ use compare_lines::wires;
 use data::{Filled, Listing, Read, Refusal, Shape};
 
 // The number of a refusal in the table, said here again: the product's own is one of the things compared.
-fn number_of(f: Refusal) -> u64 {
+pub fn number_of(f: Refusal) -> u64 {
     match f {
         Refusal::Length => 1,
         Refusal::Byte => 2,
@@ -25,18 +25,18 @@ fn number_of(f: Refusal) -> u64 {
     }
 }
 
-// The number of the refusal, if the call refused what was asked.
-pub fn number(o: Result<(), Refusal>) -> Option<u64> {
-    o.err().map(number_of)
-}
-
 // The answer of a read but for the records.
 pub fn same_answer(f: Filled, own: Result<Listing, Fault>) -> bool {
-    let (refusal, line, shape) = match own {
-        Ok(g) => (None, 0, g.shape),
-        Err(e) => (Some(e.number), e.line, Shape { s: 0, d: 0, n: 0 }),
+    let (outcome, line, shape) = match own {
+        Ok(g) => (Ok(()), 0, g.shape),
+        Err(e) => (Err(e.refusal), e.line, Shape { s: 0, d: 0, n: 0 }),
     };
-    number(f.outcome) == refusal && f.line == line && f.shape == shape
+    let wanted = Filled {
+        outcome,
+        line,
+        shape,
+    };
+    f == wanted
 }
 
 pub fn same_read(r: Read, own: Result<Listing, Fault>) -> bool {

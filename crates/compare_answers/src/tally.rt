@@ -1,5 +1,6 @@
 // What was compared and how often the answers differ, by kind; and how often each answer was given.
-use data::Which;
+use crate::same;
+use data::{Refusal, Which};
 
 pub const TEXTS: usize = 0;
 
@@ -151,8 +152,9 @@ impl Tally {
     }
 
     // An answer, by the number of its refusal.
-    pub fn refused(&mut self, number: Option<u64>) {
-        self.add(REFUSED.wrapping_add(number.unwrap_or(0) as usize), 1);
+    pub fn refused(&mut self, refusal: Option<Refusal>) {
+        let number = refusal.map_or(0, same::number_of);
+        self.add(REFUSED.wrapping_add(number as usize), 1);
     }
 
     pub fn outcome(&mut self, first: usize, is_open: bool) {

@@ -7,7 +7,7 @@ use compare_lines::{splitting, wires};
 use compare_making::{chance, damaging, lending};
 use compare_texts::running::Bits;
 use compare_texts::{running, spelling};
-use data::{Kind, Listing, Shape};
+use data::{Kind, Listing, Refusal, Shape};
 
 // ---- reading
 
@@ -16,7 +16,7 @@ fn compare_read(t: &mut Tally, kind: usize, text: &[u8]) {
     let own = splitting::read(text);
     t.compared(kind, same::same_read(r, own));
     lists::compare_read(t, text, own);
-    t.refused(own.err().map(|f| f.number));
+    t.refused(own.err().map(|f| f.refusal));
 }
 
 fn compare_damaged(t: &mut Tally, text: &[u8], seed: u64) {
@@ -56,23 +56,43 @@ pub fn compare_next(t: &mut Tally, g: Listing) {
     compare_read(t, tally::TEXTS, first(&buf, end));
 }
 
-// ---- writing
+// ---- writing and running, on values and from a list
 
-// Both buffers are compared whole, also behind the text and after a refusal.
-fn compare_written(t: &mut Tally, listed: bool, g: Listing, room: usize) {
+// What both calls put into `room` bytes: their buffers are compared whole, also behind it and after a refusal. The refusal, if it is one.
+fn compare_put<
+    P: FnOnce(&mut [u8]) -> (Result<(), Refusal>, usize),
+    O: FnOnce(&mut [u8]) -> Result<usize, Refusal>,
+>(t: &mut Tally, kind: usize, room: usize, product: P, other: O) -> Option<Refusal>
+    requires product { P.IsAlwaysCallable product }
+    requires other { O.IsAlwaysCallable other }
+{
     let mut x = [42u8; 4096];
     let mut y = [42u8; 4096];
     let end = room.min(4096);
-    let r = lists::write(g, listed, &mut x[..end]);
-    let own = spelling::write(lending::held(g, listed), &mut y[..end]);
-    let same_answer = same::number(r.outcome) == own.err() && r.len == own.unwrap_or(0);
-    let same = same_answer && x == y;
-    if listed {
-        t.compared(tally::LENT_WRITINGS, same);
-    } else {
-        t.compared(tally::WRITINGS, same);
-        t.refused(own.err());
-    }
+    let (outcome, len) = product(&mut x[..end]);
+    let own = other(&mut y[..end]);
+    let same_answer = outcome.err() == own.err() && len == own.unwrap_or(0);
+    t.compared(kind, same_answer && x == y);
+    own.err()
+}
+
+fn compare_written(t: &mut Tally, g: Listing, room: usize) {
+    let product = |buf: &mut [u8]| {
+        let r = writer::write(g, buf);
+        (r.outcome, r.len)
+    };
+    let other = |buf: &mut [u8]| spelling::write(g, buf);
+    let refusal = compare_put(t, tally::WRITINGS, room, product, other);
+    t.refused(refusal);
+}
+
+fn compare_written_list(t: &mut Tally, g: Listing, room: usize) {
+    let product = |buf: &mut [u8]| {
+        let r = compare_lists::write(g.shape, lending::few(g.wires), buf);
+        (r.outcome, r.len)
+    };
+    let other = |buf: &mut [u8]| spelling::write(lending::held(g), buf);
+    compare_put(t, tally::LENT_WRITINGS, room, product, other);
 }
 
 // Into so many bytes as the text has, one more or one less.
@@ -81,12 +101,10 @@ pub fn compare_writing(t: &mut Tally, g: Listing, seed: u64) {
     let len = spelling::text(g, &mut text);
     let room = len.wrapping_add(1).wrapping_sub(chance::below(seed, 42, 3));
     if room <= 4096 {
-        compare_written(t, false, g, room);
-        compare_written(t, true, g, room);
+        compare_written(t, g, room);
+        compare_written_list(t, g, room);
     }
 }
-
-// ---- running
 
 // A word of random bits: mostly only the first `count`.
 fn bits_drawn(seed: u64, k: u64, count: usize) -> u64 {
@@ -98,20 +116,24 @@ fn bits_drawn(seed: u64, k: u64, count: usize) -> u64 {
     }
 }
 
-fn compare_ran(t: &mut Tally, listed: bool, g: Listing, b: Bits, room: usize) {
-    let mut x = [42u8; 140];
-    let mut y = [42u8; 140];
-    let end = room.min(140);
-    let r = lists::run(g, b, listed, &mut x[..end]);
-    let own = running::run(lending::held(g, listed), b, &mut y[..end]);
-    let same_answer = same::number(r.outcome) == own.err() && r.len == own.unwrap_or(0);
-    let same = same_answer && x == y;
-    if listed {
-        t.compared(tally::LENT_RUNS, same);
-    } else {
-        t.compared(tally::RUNS, same);
-        t.refused(own.err());
-    }
+fn compare_ran(t: &mut Tally, g: Listing, b: Bits, room: usize) {
+    let product = |buf: &mut [u8]| {
+        let r = runner::run(g, b.shares, b.randoms, b.publics, buf);
+        (r.outcome, r.len)
+    };
+    let other = |buf: &mut [u8]| running::run(g, b, buf);
+    let refusal = compare_put(t, tally::RUNS, room, product, other);
+    t.refused(refusal);
+}
+
+fn compare_ran_list(t: &mut Tally, g: Listing, b: Bits, room: usize) {
+    let product = |buf: &mut [u8]| {
+        let list = lending::few(g.wires);
+        let r = compare_lists::run(g.shape, list, b.shares, b.randoms, b.publics, buf);
+        (r.outcome, r.len)
+    };
+    let other = |buf: &mut [u8]| running::run(lending::held(g), b, buf);
+    compare_put(t, tally::LENT_RUNS, room, product, other);
 }
 
 // Into so many bytes as there are wires, a few more, or one less.
@@ -127,8 +149,8 @@ pub fn compare_running(t: &mut Tally, g: Listing, seed: u64) {
         randoms: bits_drawn(seed, 44, wires::count_of(ws, Kind::Rand)),
         publics: bits_drawn(seed, 45, wires::count_of(ws, Kind::Pub)),
     };
-    compare_ran(t, false, g, b, room);
-    compare_ran(t, true, g, b, room);
+    compare_ran(t, g, b, room);
+    compare_ran_list(t, g, b, room);
 }
 
 // ---- records

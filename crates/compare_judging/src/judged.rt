@@ -1,6 +1,6 @@
 // Whole judgements by both, and what a pass means by counting wherever a small routine passes.
 use compare_answers::tally::Tally;
-use compare_answers::{same, tally};
+use compare_answers::tally;
 use compare_lines::wires;
 use compare_making::{chance, lending};
 use compare_rules::judging::Sets;
@@ -81,7 +81,7 @@ fn compare_listed(t: &mut Tally, g: &Listing, which: Which, order: usize, all: J
     let own = if g.shape.n <= 100 {
         all
     } else {
-        judging::judge(&lending::held(*g, true), which, order)
+        judging::judge(&lending::held(*g), which, order)
     };
     t.compared(tally::places_of(which).list, product == own);
 }
@@ -123,7 +123,7 @@ fn compare_judgement(t: &mut Tally, g: &Listing, which: Which, order: usize) {
     t.compared(places.values, product == own);
     compare_listed(t, g, which, order, own);
     if let Verdict::Refused(refusal) = own.verdict {
-        t.refused(same::number(Err(refusal)));
+        t.refused(Some(refusal));
         return;
     }
     t.refused(None);

@@ -1,6 +1,6 @@
 // Additions to probe sets, the needed shares and the steps of one set, each by both; and what needed shares mean, by counting.
 use compare_answers::tally::Tally;
-use compare_answers::{same, tally};
+use compare_answers::tally;
 use compare_making::{chance, lending};
 use compare_rules::starts::{Small, Table};
 use compare_rules::{adding, judging, padding, starts};
@@ -84,7 +84,7 @@ fn compare_listed(t: &mut Tally, g: &Listing, order: usize, set: ProbeSet, all: 
     let own = if g.shape.n <= 100 {
         all
     } else {
-        padding::judge_set(&lending::held(*g, true), order, &set)
+        padding::judge_set(&lending::held(*g), order, &set)
     };
     t.compared(tally::LENT_NEEDED, needed == own.needed);
     t.compared(tally::LENT_STEPS, padded == own.padded);
@@ -97,7 +97,7 @@ fn compare_set(t: &mut Tally, g: &Listing, order: usize, set: ProbeSet) {
     t.compared(tally::NEEDED, needed == own.needed);
     t.compared(tally::STEPS, padded == own.padded);
     compare_listed(t, g, order, set, own);
-    t.refused(same::number(own.needed.outcome));
+    t.refused(own.needed.outcome.err());
     if own.needed.outcome.is_ok() {
         t.outcome(tally::SETS_CLOSED, own.needed.undecided);
         t.add(tally::STEPS_MADE, own.padded.len as u64);

@@ -1,11 +1,11 @@
 // Reading a routine text byte by byte: letters are packed into a word, digits are added up, and a line is taken at its LF.
 use crate::wires;
-use data::{Kind, Listing, Shape, Wire, Word};
+use data::{Kind, Listing, Refusal, Shape, Wire, Word};
 
-// The number of a refusal, and the line at fault.
+// A refusal, and the line at fault.
 #[derive(Clone, Copy)]
 pub struct Fault {
-    pub number: u64,
+    pub refusal: Refusal,
     pub line: usize,
 }
 
@@ -25,9 +25,7 @@ struct Fields {
     count: usize,
     word: Option<Word>,
     good: bool,
-    x: usize,
-    y: usize,
-    z: usize,
+    numbers: [usize; 3],
 }
 
 // What the lines have given: the routine, how many randoms, publics and outputs, and one above the last output.
@@ -54,9 +52,7 @@ const NO_FIELDS: Fields = Fields {
     count: 0,
     word: None,
     good: true,
-    x: 0,
-    y: 0,
-    z: 0,
+    numbers: [0; 3],
 };
 
 impl Field {
@@ -99,36 +95,19 @@ impl Field {
 }
 
 impl Fields {
-    fn with(self, f: Field) -> Fields {
-        let count = self.count.wrapping_add(1);
-        if self.count == 0 {
-            return Fields {
-                count,
-                word: f.word(),
-                ..self
-            };
+    // The first field is the word, the later ones are numbers; a fourth number is only counted.
+    fn with(mut self, f: Field) -> Fields {
+        let count = self.count;
+        if count == 0 {
+            self.word = f.word();
+        } else {
+            self.good = self.good && f.is_number();
+            if let Some(number) = self.numbers.get_mut(count - 1) {
+                *number = f.number;
+            }
         }
-        let good = self.good && f.is_number();
-        let next = Fields {
-            count,
-            good,
-            ..self
-        };
-        match self.count {
-            1 => Fields {
-                x: f.number,
-                ..next
-            },
-            2 => Fields {
-                y: f.number,
-                ..next
-            },
-            3 => Fields {
-                z: f.number,
-                ..next
-            },
-            _ => next,
-        }
+        self.count = count.wrapping_add(1);
+        self
     }
 }
 
@@ -175,7 +154,7 @@ fn kind_of(word: Word) -> Kind {
     }
 }
 
-// What a line makes of what was read, or the number of its refusal.
+// What a line makes of what was read, or its refusal.
 impl Text {
     fn start(s: usize, d: usize) -> Text {
         Text {
@@ -187,64 +166,65 @@ impl Text {
         }
     }
 
-    fn first_line(c: Fields) -> Result<Text, u64> {
+    fn first_line(c: Fields) -> Result<Text, Refusal> {
         if c.word != Some(Word::Routine) || c.count != 3 || !c.good {
-            return Err(3);
+            return Err(Refusal::Header);
         }
-        if c.x < 1 || 8 < c.x || c.y < 2 || 8 < c.y {
-            return Err(4);
+        let [s, d, _] = c.numbers;
+        if s < 1 || 8 < s || d < 2 || 8 < d {
+            return Err(Refusal::Range);
         }
-        Ok(Text::start(c.x, c.y))
+        Ok(Text::start(s, d))
     }
 
-    fn with_wire(self, kind: Kind, c: Fields) -> Result<Text, u64> {
+    fn with_wire(mut self, kind: Kind, c: Fields) -> Result<Text, Refusal> {
         let n = self.listing.shape.n;
-        if c.x != n || self.outs != 0 {
-            return Err(6);
+        let [own, a, b] = c.numbers;
+        if own != n || self.outs != 0 {
+            return Err(Refusal::Next);
         }
-        if 2 < c.count && n <= c.y || 3 < c.count && n <= c.z {
-            return Err(7);
+        if 2 < c.count && n <= a || 3 < c.count && n <= b {
+            return Err(Refusal::Operand);
         }
         if 127 < n || kind == Kind::Rand && 63 < self.rands || kind == Kind::Pub && 15 < self.pubs {
-            return Err(8);
+            return Err(Refusal::Ceiling);
         }
-        let mut t = self;
         let x = Wire {
             kind,
-            a: wires::low_byte(c.y),
-            b: wires::low_byte(c.z),
+            a: wires::low_byte(a),
+            b: wires::low_byte(b),
             out: false,
         };
-        wires::put(&mut t.listing.wires, n, x);
-        t.listing.shape.n = n + 1;
-        t.rands = t.rands.wrapping_add(usize::from(kind == Kind::Rand));
-        t.pubs = t.pubs.wrapping_add(usize::from(kind == Kind::Pub));
-        Ok(t)
+        wires::put(&mut self.listing.wires, n, x);
+        self.listing.shape.n = n + 1;
+        self.rands = self.rands.wrapping_add(usize::from(kind == Kind::Rand));
+        self.pubs = self.pubs.wrapping_add(usize::from(kind == Kind::Pub));
+        Ok(self)
     }
 
-    fn with_out(self, c: Fields) -> Result<Text, u64> {
+    fn with_out(mut self, c: Fields) -> Result<Text, Refusal> {
+        let [w, ..] = c.numbers;
         if 63 < self.outs {
-            return Err(8);
+            return Err(Refusal::Ceiling);
         }
-        if self.listing.shape.n <= c.x || c.x < self.low {
-            return Err(9);
+        if self.listing.shape.n <= w || w < self.low {
+            return Err(Refusal::Output);
         }
-        let mut t = self;
-        if let Some(x) = t.listing.wires.get_mut(c.x) {
+        if let Some(x) = self.listing.wires.get_mut(w) {
             x.out = true;
         }
-        t.outs = t.outs.wrapping_add(1);
-        t.low = c.x.wrapping_add(1);
-        Ok(t)
+        self.outs = self.outs.wrapping_add(1);
+        self.low = w.wrapping_add(1);
+        Ok(self)
     }
 
-    fn with_line(self, c: Fields, line: usize) -> Result<Text, u64> {
+    fn with_line(self, c: Fields, line: usize) -> Result<Text, Refusal> {
         if line == 1 {
             return Text::first_line(c);
         }
-        let word = c.word.ok_or(5u64)?;
+        let word = c.word.ok_or(Refusal::Form)?;
         if fields_of(word) != Some(c.count) || !c.good {
-            return Err(5);
+            return Err(Refusal::Form);
         }
         match word {
             Word::Out => self.with_out(c),
@@ -278,7 +258,7 @@ fn lines(text: &[u8]) -> Result<Listing, Fault> {
         if b == b'\n' {
             t = t
                 .with_line(c, line)
-                .map_err(|number| Fault { number, line })?;
+                .map_err(|refusal| Fault { refusal, line })?;
             c = NO_FIELDS;
             line = line.wrapping_add(1);
         }
@@ -289,10 +269,16 @@ fn lines(text: &[u8]) -> Result<Listing, Fault> {
 // A whole text: refusals 1 and 2 look at it as a whole.
 pub fn read(text: &[u8]) -> Result<Listing, Fault> {
     if text.is_empty() || 4096 < text.len() {
-        return Err(Fault { number: 1, line: 0 });
+        return Err(Fault {
+            refusal: Refusal::Length,
+            line: 0,
+        });
     }
     if !text.iter().all(|b| is_letter(*b)) || text.last() != Some(&b'\n') {
-        return Err(Fault { number: 2, line: 0 });
+        return Err(Fault {
+            refusal: Refusal::Byte,
+            line: 0,
+        });
     }
     lines(text)
 }

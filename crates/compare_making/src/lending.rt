@@ -19,8 +19,8 @@ pub fn few(ws: [Wire; 128]) -> [Wire; 100] {
 }
 
 // The routine of the other answer: one of more wires than the list has records is none that the list holds, as one of 129 wires.
-pub fn held(g: Listing, listed: bool) -> Listing {
-    if listed && 100 < g.shape.n {
+pub fn held(g: Listing) -> Listing {
+    if 100 < g.shape.n {
         return Listing {
             shape: Shape { n: 129, ..g.shape },
             ..g

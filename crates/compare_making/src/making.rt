@@ -31,15 +31,14 @@ fn input(i: usize, d: usize) -> [u8; 8] {
 }
 
 // The refreshing of document 003: a fresh random onto each share but the last, and onto the last one.
-fn refreshed(t: &mut Listing, x: [u8; 8]) -> [u8; 8] {
+fn refreshed(t: &mut Listing, mut x: [u8; 8]) -> [u8; 8] {
     let last = t.shape.d.clamp(1, 8) - 1;
-    let mut y = x;
     for k in 0..last {
         let r = push(t, Kind::Rand, 0, 0);
-        y[k] = push(t, Kind::Xor, y[k], r);
-        y[last] = push(t, Kind::Xor, r, y[last]);
+        x[k] = push(t, Kind::Xor, x[k], r);
+        x[last] = push(t, Kind::Xor, r, x[last]);
     }
-    y
+    x
 }
 
 // A wire of this kind on each share of x and the same one of y: with xor the masked sum, with and the products of shares of one number.

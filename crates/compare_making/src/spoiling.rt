@@ -48,19 +48,18 @@ fn other_wire(x: Wire, w: usize, seed: u64) -> Wire {
 }
 
 // S, D, n or one record changed, an operand to the wire itself too: mostly what no read gives.
-pub fn spoiled(t: Listing, seed: u64) -> Listing {
+pub fn spoiled(mut t: Listing, seed: u64) -> Listing {
     let Shape { s, d, n } = t.shape;
-    let mut u = t;
     match chance::below(seed, 51, 8) {
-        0 => u.shape.s = near(seed, s),
-        1 => u.shape.d = near(seed, d),
-        2 => u.shape.n = near(seed, n),
+        0 => t.shape.s = near(seed, s),
+        1 => t.shape.d = near(seed, d),
+        2 => t.shape.n = near(seed, n),
         _ => {
             let w = chance::below(seed, 52, n);
-            if let Some(x) = u.wires.get_mut(w) {
+            if let Some(x) = t.wires.get_mut(w) {
                 *x = other_wire(*x, w, seed);
             }
         }
     }
-    u
+    t
 }

@@ -192,9 +192,9 @@ fn refused(refusal: Refusal) -> Answers {
 
 fn answered(shape: Shape, t: usize, p: Padding) -> Answers {
     let outcome = Ok(());
-    let word = share_word(shape, p.live);
+    let Padding { len, steps, live } = p;
+    let word = share_word(shape, live);
     let undecided = shares::is_over(shape, word, t);
-    let steps = p.steps;
     Answers {
         needed: Needed {
             outcome,
@@ -204,7 +204,7 @@ fn answered(shape: Shape, t: usize, p: Padding) -> Answers {
         padded: Padded {
             outcome,
             steps,
-            len: p.len,
+            len,
             undecided,
         },
     }

@@ -2,7 +2,7 @@
 use crate::marks::Marks;
 use crate::{marks, spelling};
 use compare_lines::wires;
-use data::{Kind, Listing, Wire};
+use data::{Kind, Listing, Refusal, Wire};
 
 // The words of bits of a run.
 #[derive(Clone, Copy)]
@@ -42,10 +42,10 @@ pub fn values(ws: &[Wire], bits: Bits) -> Marks {
     done
 }
 
-// `run`: how many values are in the buffer, or the number of the refusal.
-pub fn run(listing: Listing, bits: Bits, buf: &mut [u8]) -> Result<usize, u64> {
+// `run`: how many values are in the buffer, or the refusal.
+pub fn run(listing: Listing, bits: Bits, buf: &mut [u8]) -> Result<usize, Refusal> {
     if !spelling::could_be_read(listing) {
-        return Err(11);
+        return Err(Refusal::Records);
     }
     let ws = wires::of(&listing);
     let shape = listing.shape;
@@ -53,10 +53,10 @@ pub fn run(listing: Listing, bits: Bits, buf: &mut [u8]) -> Result<usize, u64> {
         && is_within(bits.randoms, wires::count_of(ws, Kind::Rand))
         && is_within(bits.publics, wires::count_of(ws, Kind::Pub));
     if !fits {
-        return Err(14);
+        return Err(Refusal::Bits);
     }
     if buf.len() < ws.len() {
-        return Err(15);
+        return Err(Refusal::Buffer);
     }
     let done = values(ws, bits);
     for (w, b) in buf.iter_mut().enumerate().take(ws.len()) {

@@ -1,6 +1,6 @@
 // A routine's text, put byte by byte; and the test of refusal 11: what is read back from that text are the same records.
 use compare_lines::{parts, splitting, wires};
-use data::{Kind, Listing, Shape, Wire};
+use data::{Kind, Listing, Refusal, Shape, Wire};
 
 // A byte that no text has.
 const NO_TEXT: u8 = b'?';
@@ -115,14 +115,14 @@ pub fn could_be_read(listing: Listing) -> bool {
     }
 }
 
-// `write`: the length of the text in the buffer, or the number of the refusal; the buffer keeps its content where it is refused.
-pub fn write(listing: Listing, buf: &mut [u8]) -> Result<usize, u64> {
+// `write`: the length of the text in the buffer, or the refusal; the buffer keeps its content where it is refused.
+pub fn write(listing: Listing, buf: &mut [u8]) -> Result<usize, Refusal> {
     if !could_be_read(listing) {
-        return Err(11);
+        return Err(Refusal::Records);
     }
     let mut apart = [0u8; 4096];
     if buf.len() < text(listing, &mut apart) {
-        return Err(15);
+        return Err(Refusal::Buffer);
     }
     Ok(text(listing, buf))
 }
