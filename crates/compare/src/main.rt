@@ -1,8 +1,7 @@
 // Random routines from a fixed seed: every public call of the product compared with an answer found by other means.
 #![tactic(auto)]
 
-use compare_answers::tally;
-use compare_answers::tally::Tally;
+use compare_answers::tally::{Answer, Comparison, Tally};
 use compare_calls::texts;
 use compare_judging::{judged, sets};
 use compare_making::{chance, inverting, making, spoiling};
@@ -19,70 +18,76 @@ const LARGE: u64 = 160;
 
 // ---- printing
 
-// What is compared, as it is printed, and where it is counted.
-const KINDS: [(&str, usize); 27] = [
-    ("texts read", tally::TEXTS),
-    ("damaged texts read", tally::DAMAGED),
-    ("routines written", tally::WRITINGS),
-    ("routines run", tally::RUNS),
-    ("lists of records tested", tally::RECORDS),
-    ("additions to a set", tally::ADDITIONS),
-    ("sets, needed shares", tally::NEEDED),
-    ("sets, steps", tally::STEPS),
-    ("plain judgements", tally::PLAIN),
-    ("strong judgements", tally::STRONG),
-    ("texts read into a lent list", tally::LENT_READS),
-    ("texts read into too short a list", tally::LENT_SHORT),
-    ("routines written from a list", tally::LENT_WRITINGS),
-    ("routines run from a list", tally::LENT_RUNS),
-    ("sets of a list, needed shares", tally::LENT_NEEDED),
-    ("sets of a list, steps", tally::LENT_STEPS),
-    ("plain judgements of a list", tally::LENT_PLAIN),
-    ("strong judgements of a list", tally::LENT_STRONG),
-    ("sets of a plain pass, starts counted", tally::EVEN),
-    ("sets of a strong pass, drawings counted", tally::DRAWN),
-    ("sets, drawings counted", tally::NEEDED_DRAWN),
+// What is compared, as it is printed.
+const KINDS: [(&str, Comparison); 27] = [
+    ("texts read", Comparison::Texts),
+    ("damaged texts read", Comparison::Damaged),
+    ("routines written", Comparison::Writings),
+    ("routines run", Comparison::Runs),
+    ("lists of records tested", Comparison::Records),
+    ("additions to a set", Comparison::Additions),
+    ("sets, needed shares", Comparison::Needed),
+    ("sets, steps", Comparison::Steps),
+    ("plain judgements", Comparison::Plain),
+    ("strong judgements", Comparison::Strong),
+    ("texts read into a lent list", Comparison::LentReads),
+    ("texts read into too short a list", Comparison::LentShort),
+    ("routines written from a list", Comparison::LentWritings),
+    ("routines run from a list", Comparison::LentRuns),
+    ("sets of a list, needed shares", Comparison::LentNeeded),
+    ("sets of a list, steps", Comparison::LentSteps),
+    ("plain judgements of a list", Comparison::LentPlain),
+    ("strong judgements of a list", Comparison::LentStrong),
+    ("sets of a plain pass, starts counted", Comparison::Even),
+    ("sets of a strong pass, drawings counted", Comparison::Drawn),
+    ("sets, drawings counted", Comparison::NeededDrawn),
     (
         "sets of a plain pass by inverted randoms, starts counted",
-        tally::EVEN_INVERTED,
+        Comparison::EvenInverted,
     ),
     (
         "sets of a strong pass by inverted randoms, drawings counted",
-        tally::DRAWN_INVERTED,
+        Comparison::DrawnInverted,
     ),
-    ("judgements also made with no not padded", tally::NOTS_KEPT),
-    ("orders above a plain judgement", tally::LOWER),
-    ("orders above a strong judgement", tally::LOWER_STRONG),
-    ("orders of a strong judgement, plain", tally::STRONG_PLAIN),
+    (
+        "judgements also made with no not padded",
+        Comparison::NotsKept,
+    ),
+    ("orders above a plain judgement", Comparison::Lower),
+    ("orders above a strong judgement", Comparison::LowerStrong),
+    (
+        "orders of a strong judgement, plain",
+        Comparison::StrongPlain,
+    ),
 ];
 
 // How often each answer was given, likewise.
-const ANSWERS: [(&str, usize); 8] = [
-    ("plain judgements that pass", tally::PLAIN_PASS),
-    ("plain judgements that are open", tally::PLAIN_OPEN),
-    ("strong judgements that pass", tally::STRONG_PASS),
-    ("strong judgements that are open", tally::STRONG_OPEN),
+const ANSWERS: [(&str, Answer); 8] = [
+    ("plain judgements that pass", Answer::PlainPass),
+    ("plain judgements that are open", Answer::PlainOpen),
+    ("strong judgements that pass", Answer::StrongPass),
+    ("strong judgements that are open", Answer::StrongOpen),
     (
         "judgements that pass by inverted randoms",
-        tally::PASS_INVERTED,
+        Answer::PassInverted,
     ),
-    ("sets that are not open", tally::SETS_CLOSED),
-    ("sets that are open", tally::SETS_OPEN),
-    ("steps made", tally::STEPS_MADE),
+    ("sets that are not open", Answer::SetsClosed),
+    ("sets that are open", Answer::SetsOpen),
+    ("steps made", Answer::StepsMade),
 ];
 
 fn say_kinds(out: &mut impl Write, t: &Tally) -> io::Result<()> {
     for (words, kind) in KINDS {
-        let compared = t.at(kind);
-        let differ = t.at(kind.wrapping_add(tally::DIFFER));
+        let compared = t.compared_of(kind);
+        let differ = t.differ_of(kind);
         writeln!(out, "{words}: compared {compared}, differ {differ}")?;
     }
     Ok(())
 }
 
 fn say_answers(out: &mut impl Write, t: &Tally) -> io::Result<()> {
-    for (words, place) in ANSWERS {
-        writeln!(out, "{words}: {}", t.at(place))?;
+    for (words, answer) in ANSWERS {
+        writeln!(out, "{words}: {}", t.answers_of(answer))?;
     }
     Ok(())
 }
@@ -91,7 +96,7 @@ fn say_answers(out: &mut impl Write, t: &Tally) -> io::Result<()> {
 fn say_refusals(out: &mut impl Write, t: &Tally) -> io::Result<()> {
     write!(out, "refusals 1 to 15:")?;
     for number in 1..16 {
-        write!(out, " {}", t.at(tally::REFUSED + number))?;
+        write!(out, " {}", t.refusals_of(number))?;
     }
     writeln!(out)
 }

@@ -2,168 +2,157 @@
 use crate::same;
 use data::{Refusal, Which};
 
-pub const TEXTS: usize = 0;
+// What is compared.
+#[derive(Clone, Copy, PartialEq, Eq)]
+pub enum Comparison {
+    Texts,
+    Damaged,
+    Writings,
+    Runs,
+    Records,
+    Needed,
+    Steps,
+    Plain,
+    Strong,
+    Additions,
+    Even,
+    Lower,
+    LentReads,
+    LentShort,
+    LentWritings,
+    LentRuns,
+    LentNeeded,
+    LentSteps,
+    LentPlain,
+    LentStrong,
+    Drawn,
+    LowerStrong,
+    StrongPlain,
+    NeededDrawn,
+    NotsKept,
+    EvenInverted,
+    DrawnInverted,
+}
 
-pub const DAMAGED: usize = 1;
-
-pub const WRITINGS: usize = 2;
-
-pub const RUNS: usize = 3;
-
-pub const RECORDS: usize = 4;
-
-pub const NEEDED: usize = 5;
-
-pub const STEPS: usize = 6;
-
-pub const PLAIN: usize = 7;
-
-pub const STRONG: usize = 8;
-
-pub const ADDITIONS: usize = 9;
-
-pub const EVEN: usize = 10;
-
-pub const LOWER: usize = 11;
-
-pub const LENT_READS: usize = 12;
-
-pub const LENT_SHORT: usize = 13;
-
-pub const LENT_WRITINGS: usize = 14;
-
-pub const LENT_RUNS: usize = 15;
-
-pub const LENT_NEEDED: usize = 16;
-
-pub const LENT_STEPS: usize = 17;
-
-pub const LENT_PLAIN: usize = 18;
-
-pub const LENT_STRONG: usize = 19;
-
-pub const DRAWN: usize = 20;
-
-pub const LOWER_STRONG: usize = 21;
-
-pub const STRONG_PLAIN: usize = 22;
-
-pub const NEEDED_DRAWN: usize = 23;
-
-pub const NOTS_KEPT: usize = 24;
-
-pub const EVEN_INVERTED: usize = 25;
-
-pub const DRAWN_INVERTED: usize = 26;
-
-// Places 0 to 31: how many of a kind were compared. 32 to 63: how many of it differ. From 64 on: how often each refusal was given
-// (64: none). From 96 on: answers of each sort, where "not open" stands before "open".
-pub const DIFFER: usize = 32;
-
-pub const REFUSED: usize = 64;
-
-pub const PLAIN_PASS: usize = 96;
-
-pub const PLAIN_OPEN: usize = 97;
-
-pub const SETS_CLOSED: usize = 98;
-
-pub const SETS_OPEN: usize = 99;
-
-pub const STEPS_MADE: usize = 100;
-
-pub const STRONG_PASS: usize = 101;
-
-pub const STRONG_OPEN: usize = 102;
-
-pub const PASS_INVERTED: usize = 103;
+// What is answered.
+#[derive(Clone, Copy, PartialEq, Eq)]
+pub enum Answer {
+    PlainPass,
+    PlainOpen,
+    SetsClosed,
+    SetsOpen,
+    StepsMade,
+    StrongPass,
+    StrongOpen,
+    PassInverted,
+}
 
 // Where a judgement is counted: on values, over a list, its passes, and the sets of a pass, also of one that inverted randoms give.
 #[derive(Clone, Copy)]
 pub struct Places {
-    pub values: usize,
-    pub list: usize,
-    pub pass: usize,
-    pub meant: usize,
-    pub inverted: usize,
+    pub values: Comparison,
+    pub list: Comparison,
+    pub pass: Answer,
+    pub open: Answer,
+    pub meant: Comparison,
+    pub inverted: Comparison,
 }
 
 pub fn places_of(which: Which) -> Places {
     match which {
         Which::Plain => Places {
-            values: PLAIN,
-            list: LENT_PLAIN,
-            pass: PLAIN_PASS,
-            meant: EVEN,
-            inverted: EVEN_INVERTED,
+            values: Comparison::Plain,
+            list: Comparison::LentPlain,
+            pass: Answer::PlainPass,
+            open: Answer::PlainOpen,
+            meant: Comparison::Even,
+            inverted: Comparison::EvenInverted,
         },
         Which::Strong => Places {
-            values: STRONG,
-            list: LENT_STRONG,
-            pass: STRONG_PASS,
-            meant: DRAWN,
-            inverted: DRAWN_INVERTED,
+            values: Comparison::Strong,
+            list: Comparison::LentStrong,
+            pass: Answer::StrongPass,
+            open: Answer::StrongOpen,
+            meant: Comparison::Drawn,
+            inverted: Comparison::DrawnInverted,
         },
     }
 }
 
+// For each comparison how often it was made and how often it differs; how often each answer was given, and each refusal by its number (0: none).
 #[derive(Clone, Copy, PartialEq, Eq)]
 pub struct Tally {
-    counts: [u64; 104],
+    compared: [u64; 27],
+    differ: [u64; 27],
+    answers: [u64; 8],
+    refusals: [u64; 17],
+}
+
+fn at(counts: &[u64], i: usize) -> u64 {
+    counts.get(i).copied().unwrap_or(0)
+}
+
+fn add(counts: &mut [u64], i: usize, by: u64) {
+    if let Some(count) = counts.get_mut(i) {
+        *count = count.wrapping_add(by);
+    }
 }
 
 impl Tally {
     pub fn new() -> Tally {
-        Tally { counts: [0; 104] }
-    }
-
-    pub fn at(&self, i: usize) -> u64 {
-        self.counts.get(i).copied().unwrap_or(0)
-    }
-
-    pub fn add(&mut self, i: usize, by: u64) {
-        if let Some(count) = self.counts.get_mut(i) {
-            *count = count.wrapping_add(by);
+        Tally {
+            compared: [0; 27],
+            differ: [0; 27],
+            answers: [0; 8],
+            refusals: [0; 17],
         }
+    }
+
+    pub fn compared_of(&self, kind: Comparison) -> u64 {
+        at(&self.compared, kind as usize)
+    }
+
+    pub fn differ_of(&self, kind: Comparison) -> u64 {
+        at(&self.differ, kind as usize)
+    }
+
+    pub fn answers_of(&self, answer: Answer) -> u64 {
+        at(&self.answers, answer as usize)
+    }
+
+    pub fn refusals_of(&self, number: usize) -> u64 {
+        at(&self.refusals, number)
     }
 
     // One comparison of a kind, by which the answers were the same or not.
-    pub fn compared(&mut self, kind: usize, same: bool) {
-        self.add(kind, 1);
-        if !same {
-            self.add(kind.wrapping_add(DIFFER), 1);
-        }
-    }
-
-    // How often a kind was compared since `before`, and how often it differed.
-    fn gained(&self, before: &Tally, kind: usize) -> (u64, u64) {
-        let differ = kind.wrapping_add(DIFFER);
-        (
-            self.at(kind).wrapping_sub(before.at(kind)),
-            self.at(differ).wrapping_sub(before.at(differ)),
-        )
+    pub fn compared(&mut self, kind: Comparison, same: bool) {
+        add(&mut self.compared, kind as usize, 1);
+        add(&mut self.differ, kind as usize, u64::from(!same));
     }
 
     // What a kind gained since `before`, counted under another kind too.
-    pub fn also(&mut self, before: &Tally, kind: usize, other: usize) {
-        let (gained, worse) = self.gained(before, kind);
-        self.add(other, gained);
-        self.add(other.wrapping_add(DIFFER), worse);
+    pub fn also(&mut self, before: &Tally, kind: Comparison, other: Comparison) {
+        let gained = self
+            .compared_of(kind)
+            .wrapping_sub(before.compared_of(kind));
+        let worse = self.differ_of(kind).wrapping_sub(before.differ_of(kind));
+        add(&mut self.compared, other as usize, gained);
+        add(&mut self.differ, other as usize, worse);
     }
 
     // An answer, by the number of its refusal.
     pub fn refused(&mut self, refusal: Option<Refusal>) {
         let number = refusal.map_or(0, same::number_of);
-        self.add(REFUSED.wrapping_add(number as usize), 1);
+        add(&mut self.refusals, number as usize, 1);
     }
 
-    pub fn outcome(&mut self, first: usize, is_open: bool) {
-        self.add(first.wrapping_add(usize::from(is_open)), 1);
+    // So many answers.
+    pub fn answered(&mut self, answer: Answer, by: u64) {
+        add(&mut self.answers, answer as usize, by);
     }
 
     // How many answers differ in all.
     pub fn differences(&self) -> u64 {
-        let differ = &self.counts[DIFFER..REFUSED];
-        differ.iter().fold(0, |sum, n| sum.wrapping_add(*n))
+        self.differ.iter().fold(0, |sum, n| sum.wrapping_add(*n))
     }
 }

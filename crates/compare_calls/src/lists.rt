@@ -1,6 +1,6 @@
 // Reading into a lent list, of 130 records and of 127.
-use compare_answers::tally::Tally;
-use compare_answers::{same, tally};
+use compare_answers::same;
+use compare_answers::tally::{Comparison, Tally};
 use compare_lines::splitting::Fault;
 use compare_lines::wires;
 use compare_making::lending::CONTENT;
@@ -19,7 +19,7 @@ fn compare_long(t: &mut Tally, text: &[u8], own: Result<Listing, Fault>) {
         Err(_) => same_list(&after.list, &[]),
     };
     let same = same::same_answer(after.answer, own) && same_wires;
-    t.compared(tally::LENT_READS, same);
+    t.compared(Comparison::LentReads, same);
 }
 
 // Refusal 10 before all else, whatever the text is, and the list as it came.
@@ -30,7 +30,7 @@ fn compare_short(t: &mut Tally, text: &[u8]) {
         line: 0,
     });
     let same = same::same_answer(after.answer, refused) && same_list(&after.list, &[]);
-    t.compared(tally::LENT_SHORT, same);
+    t.compared(Comparison::LentShort, same);
     t.refused(Some(Refusal::Lent));
 }
 

@@ -1,7 +1,7 @@
 // Texts read, routines written and run, and the test of refusal 11, each by both.
 use crate::lists;
-use compare_answers::tally::Tally;
-use compare_answers::{same, tally};
+use compare_answers::same;
+use compare_answers::tally::{Comparison, Tally};
 use compare_lines::parts::first;
 use compare_lines::{splitting, wires};
 use compare_making::{chance, damaging, lending};
@@ -11,7 +11,7 @@ use data::{Kind, Listing, Refusal, Shape};
 
 // ---- reading
 
-fn compare_read(t: &mut Tally, kind: usize, text: &[u8]) {
+fn compare_read(t: &mut Tally, kind: Comparison, text: &[u8]) {
     let r = reader::read(text);
     let own = splitting::read(text);
     t.compared(kind, same::same_read(r, own));
@@ -23,11 +23,11 @@ fn compare_damaged(t: &mut Tally, text: &[u8], seed: u64) {
     let mut one = [0u8; 4200];
     let len = damaging::damaged(text, seed, &mut one);
     let once = first(&one, len);
-    compare_read(t, tally::DAMAGED, once);
+    compare_read(t, Comparison::Damaged, once);
     if chance::one_in(seed, 40, 3) {
         let mut two = [0u8; 4200];
         let len = damaging::damaged(once, chance::draw(seed, 41), &mut two);
-        compare_read(t, tally::DAMAGED, first(&two, len));
+        compare_read(t, Comparison::Damaged, first(&two, len));
     }
 }
 
@@ -35,7 +35,7 @@ pub fn compare_reading(t: &mut Tally, g: Listing, seed: u64) {
     let mut buf = [0u8; 4200];
     let len = spelling::text(g, &mut buf);
     let text = first(&buf, len);
-    compare_read(t, tally::TEXTS, text);
+    compare_read(t, Comparison::Texts, text);
     for k in 0..4 {
         compare_damaged(t, text, chance::draw(seed, k));
     }
@@ -45,7 +45,7 @@ pub fn compare_reading(t: &mut Tally, g: Listing, seed: u64) {
 pub fn compare_text(t: &mut Tally, g: Listing) {
     let mut buf = [0u8; 4200];
     let len = spelling::text(g, &mut buf);
-    compare_read(t, tally::DAMAGED, first(&buf, len));
+    compare_read(t, Comparison::Damaged, first(&buf, len));
 }
 
 // The text with one line more: the next wire.
@@ -53,7 +53,7 @@ pub fn compare_next(t: &mut Tally, g: Listing) {
     let mut buf = [0u8; 4200];
     let len = spelling::text(g, &mut buf);
     let end = spelling::with_wire(g.wires[2], g.shape.n, len, &mut buf);
-    compare_read(t, tally::TEXTS, first(&buf, end));
+    compare_read(t, Comparison::Texts, first(&buf, end));
 }
 
 // ---- writing and running, on values and from a list
@@ -62,7 +62,7 @@ pub fn compare_next(t: &mut Tally, g: Listing) {
 fn compare_put<
     P: FnOnce(&mut [u8]) -> (Result<(), Refusal>, usize),
     O: FnOnce(&mut [u8]) -> Result<usize, Refusal>,
->(t: &mut Tally, kind: usize, room: usize, product: P, other: O) -> Option<Refusal>
+>(t: &mut Tally, kind: Comparison, room: usize, product: P, other: O) -> Option<Refusal>
     requires product { P.IsAlwaysCallable product }
     requires other { O.IsAlwaysCallable other }
 {
@@ -82,7 +82,7 @@ fn compare_written(t: &mut Tally, g: Listing, room: usize) {
         (r.outcome, r.len)
     };
     let other = |buf: &mut [u8]| spelling::write(g, buf);
-    let refusal = compare_put(t, tally::WRITINGS, room, product, other);
+    let refusal = compare_put(t, Comparison::Writings, room, product, other);
     t.refused(refusal);
 }
 
@@ -92,7 +92,7 @@ fn compare_written_list(t: &mut Tally, g: Listing, room: usize) {
         (r.outcome, r.len)
     };
     let other = |buf: &mut [u8]| spelling::write(lending::held(g), buf);
-    compare_put(t, tally::LENT_WRITINGS, room, product, other);
+    compare_put(t, Comparison::LentWritings, room, product, other);
 }
 
 // Into so many bytes as the text has, one more or one less.
@@ -122,7 +122,7 @@ fn compare_ran(t: &mut Tally, g: Listing, b: Bits, room: usize) {
         (r.outcome, r.len)
     };
     let other = |buf: &mut [u8]| running::run(g, b, buf);
-    let refusal = compare_put(t, tally::RUNS, room, product, other);
+    let refusal = compare_put(t, Comparison::Runs, room, product, other);
     t.refused(refusal);
 }
 
@@ -133,7 +133,7 @@ fn compare_ran_list(t: &mut Tally, g: Listing, b: Bits, room: usize) {
         (r.outcome, r.len)
     };
     let other = |buf: &mut [u8]| running::run(lending::held(g), b, buf);
-    compare_put(t, tally::LENT_RUNS, room, product, other);
+    compare_put(t, Comparison::LentRuns, room, product, other);
 }
 
 // Into so many bytes as there are wires, a few more, or one less.
@@ -157,5 +157,5 @@ pub fn compare_running(t: &mut Tally, g: Listing, seed: u64) {
 
 pub fn compare_records(t: &mut Tally, g: Listing) {
     let fit = records::records_fit(g);
-    t.compared(tally::RECORDS, fit == spelling::could_be_read(g));
+    t.compared(Comparison::Records, fit == spelling::could_be_read(g));
 }

@@ -1,6 +1,6 @@
 // Whole judgements by both, and what a pass means by counting wherever a small routine passes.
-use compare_answers::tally::Tally;
 use compare_answers::tally;
+use compare_answers::tally::{Answer, Comparison, Tally};
 use compare_lines::wires;
 use compare_making::{chance, lending};
 use compare_rules::judging::Sets;
@@ -32,9 +32,9 @@ impl Pass<'_> {
         match self.which {
             Which::Plain => {
                 let even = self.table.is_even(self.routine.listing.shape.s, set);
-                t.compared(tally::EVEN, even);
+                t.compared(Comparison::Even, even);
             }
-            Which::Strong => t.compared(tally::DRAWN, self.few_depend(set)),
+            Which::Strong => t.compared(Comparison::Drawn, self.few_depend(set)),
         }
     }
 
@@ -103,7 +103,7 @@ fn open_place(verdict: Verdict) -> Option<u64> {
 fn compare_kept(t: &mut Tally, g: &Listing, which: Which, order: usize, place: Option<u64>) {
     let kept = open_place(judge::judge(judging::with_nots_kept(g), which, order).verdict);
     let no_later = place.is_none_or(|open| kept.is_some_and(|first| first <= open));
-    t.compared(tally::NOTS_KEPT, no_later);
+    t.compared(Comparison::NotsKept, no_later);
     if place.is_some() {
         return;
     }
@@ -111,7 +111,7 @@ fn compare_kept(t: &mut Tally, g: &Listing, which: Which, order: usize, place: O
     observe(t, g, which, order);
     if kept.is_some() {
         let places = tally::places_of(which);
-        t.add(tally::PASS_INVERTED, 1);
+        t.answered(Answer::PassInverted, 1);
         t.also(&before, places.meant, places.inverted);
     }
 }
@@ -128,7 +128,7 @@ fn compare_judgement(t: &mut Tally, g: &Listing, which: Which, order: usize) {
     }
     t.refused(None);
     let is_open = open_place(own.verdict).is_some();
-    t.outcome(places.pass, is_open);
+    t.answered(if is_open { places.open } else { places.pass }, 1);
     if has_nots(g) {
         compare_kept(t, g, which, order, open_place(product.verdict));
     } else if !is_open {
@@ -148,10 +148,10 @@ struct Opened {
 impl Opened {
     // Those of the last order, by what is counted before and after it.
     fn between(before: &Tally, after: &Tally) -> Opened {
-        let is_new = |kind| before.at(kind) != after.at(kind);
+        let is_new = |answer| before.answers_of(answer) != after.answers_of(answer);
         Opened {
-            plain: is_new(tally::PLAIN_OPEN),
-            strong: is_new(tally::STRONG_OPEN),
+            plain: is_new(Answer::PlainOpen),
+            strong: is_new(Answer::StrongOpen),
         }
     }
 
@@ -170,9 +170,9 @@ pub fn compare_order(t: &mut Tally, g: &Listing, order: usize) {
 
 // 9.13, 9.32: an order that passes has no lower one that is open. 9.31: nor is the plain judgement where the strong one passes.
 fn compare_passes(t: &mut Tally, lower: Opened, own: Opened) {
-    t.compared(tally::LOWER, own.plain || !lower.plain);
-    t.compared(tally::LOWER_STRONG, own.strong || !lower.strong);
-    t.compared(tally::STRONG_PLAIN, own.strong || !own.plain);
+    t.compared(Comparison::Lower, own.plain || !lower.plain);
+    t.compared(Comparison::LowerStrong, own.strong || !lower.strong);
+    t.compared(Comparison::StrongPlain, own.strong || !own.plain);
 }
 
 // Every order that is judged, from 1 to the lower of 4 and D - 1.

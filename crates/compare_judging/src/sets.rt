@@ -1,6 +1,5 @@
 // Additions to probe sets, the needed shares and the steps of one set, each by both; and what needed shares mean, by counting.
-use compare_answers::tally::Tally;
-use compare_answers::tally;
+use compare_answers::tally::{Answer, Comparison, Tally};
 use compare_making::{chance, lending};
 use compare_rules::starts::{Small, Table};
 use compare_rules::{adding, judging, padding, starts};
@@ -46,7 +45,7 @@ fn set_drawn(seed: u64, n: usize, size: usize) -> ProbeSet {
 // ---- additions
 
 fn compare_addition(t: &mut Tally, set: ProbeSet, w: usize) {
-    t.compared(tally::ADDITIONS, set.add(w) == adding::add(set, w));
+    t.compared(Comparison::Additions, set.add(w) == adding::add(set, w));
 }
 
 pub fn compare_additions(t: &mut Tally, seed: u64) {
@@ -86,21 +85,29 @@ fn compare_listed(t: &mut Tally, g: &Listing, order: usize, set: ProbeSet, all: 
     } else {
         padding::judge_set(&lending::held(*g), order, &set)
     };
-    t.compared(tally::LENT_NEEDED, needed == own.needed);
-    t.compared(tally::LENT_STEPS, padded == own.padded);
+    t.compared(Comparison::LentNeeded, needed == own.needed);
+    t.compared(Comparison::LentSteps, padded == own.padded);
 }
 
 fn compare_set(t: &mut Tally, g: &Listing, order: usize, set: ProbeSet) {
     let own = padding::judge_set(g, order, &set);
     let needed = rule::needs(*g, order, set);
     let padded = rule::pads(*g, order, set);
-    t.compared(tally::NEEDED, needed == own.needed);
-    t.compared(tally::STEPS, padded == own.padded);
+    t.compared(Comparison::Needed, needed == own.needed);
+    t.compared(Comparison::Steps, padded == own.padded);
     compare_listed(t, g, order, set, own);
     t.refused(own.needed.outcome.err());
     if own.needed.outcome.is_ok() {
-        t.outcome(tally::SETS_CLOSED, own.needed.undecided);
-        t.add(tally::STEPS_MADE, own.padded.len as u64);
+        let is_open = own.needed.undecided;
+        t.answered(
+            if is_open {
+                Answer::SetsOpen
+            } else {
+                Answer::SetsClosed
+            },
+            1,
+        );
+        t.answered(Answer::StepsMade, own.padded.len as u64);
     }
 }
 
@@ -123,7 +130,7 @@ fn compare_drawn(t: &mut Tally, r: &Small, table: &Table, order: usize, set: Pro
     }
     let needed = rule::needs(r.listing, order, set).shares;
     let dependent = table.dependent(r, &set);
-    t.compared(tally::NEEDED_DRAWN, dependent | needed == needed);
+    t.compared(Comparison::NeededDrawn, dependent | needed == needed);
 }
 
 // Of a small routine, with some public bits.

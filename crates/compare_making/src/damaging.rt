@@ -33,43 +33,69 @@ fn byte_drawn(seed: u64) -> u8 {
     }
 }
 
-// One byte changed, removed, doubled, or put in between.
-fn byte_damaged(src: &[u8], seed: u64, which: usize, to: &mut Pen) {
+// What may be done to one byte.
+#[derive(Clone, Copy)]
+enum OfByte {
+    Changed,
+    Removed,
+    Doubled,
+    Preceded,
+}
+
+const OF_BYTE: [OfByte; 4] = [
+    OfByte::Changed,
+    OfByte::Removed,
+    OfByte::Doubled,
+    OfByte::Preceded,
+];
+
+// One byte changed, removed, doubled, or another one put before it.
+fn byte_damaged(src: &[u8], seed: u64, damage: OfByte, to: &mut Pen) {
     let p = chance::below(seed, 22, src.len());
     let behind = rest(src, p.wrapping_add(1));
     to.put_all(first(src, p));
-    match which {
-        0 => {
+    match damage {
+        OfByte::Changed => {
             to.put(byte_drawn(seed));
             to.put_all(behind);
         }
-        1 => to.put_all(behind),
-        2 => {
+        OfByte::Removed => to.put_all(behind),
+        OfByte::Doubled => {
             to.put(splitting::byte_at(src, p));
             to.put_all(rest(src, p));
         }
-        _ => {
+        OfByte::Preceded => {
             to.put(byte_drawn(seed));
             to.put_all(rest(src, p));
         }
     }
 }
 
+// What may be done to one line.
+#[derive(Clone, Copy)]
+enum OfLine {
+    Removed,
+    Doubled,
+    Moved,
+}
+
+const OF_LINE: [OfLine; 3] = [OfLine::Removed, OfLine::Doubled, OfLine::Moved];
+
 // A line removed, doubled, or moved behind another. The text begins where its line 0 ends.
-fn line_damaged(src: &[u8], seed: u64, which: usize, to: &mut Pen) {
+fn line_damaged(src: &[u8], seed: u64, damage: OfLine, to: &mut Pen) {
     let lines = count_lines(src);
     let k = chance::below(seed, 23, lines);
     let start = if k == 0 { 0 } else { line_end(src, k) };
     let end = line_end(src, k.wrapping_add(1));
     let line = between(src, start, end);
     to.put_all(first(src, start));
-    match which {
-        0 => to.put_all(rest(src, end)),
-        1 => {
+    match damage {
+        OfLine::Removed => to.put_all(rest(src, end)),
+        OfLine::Doubled => {
             to.put_all(line);
             to.put_all(rest(src, start));
         }
-        _ => {
+        OfLine::Moved => {
             let far = line_end(src, k.wrapping_add(chance::below(seed, 24, lines)));
             to.put_all(between(src, end, far));
             to.put_all(line);
@@ -94,8 +120,8 @@ pub fn damaged(src: &[u8], seed: u64, dst: &mut [u8]) -> usize {
         0 => {}
         1..=2 => repeated(src, seed, &mut to),
         3..=5 => to.put_all(first(src, chance::below(seed, 27, src.len()))),
-        6..=23 => line_damaged(src, seed, which % 3, &mut to),
-        _ => byte_damaged(src, seed, which % 4, &mut to),
+        6..=23 => line_damaged(src, seed, OF_LINE[which % 3], &mut to),
+        _ => byte_damaged(src, seed, OF_BYTE[which % 4], &mut to),
     }
     to.len()
 }

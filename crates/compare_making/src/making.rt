@@ -174,17 +174,27 @@ fn mark_some(t: &mut Listing, seed: u64, odds: usize) {
 
 // ---- families
 
+// What is put on the shares.
+#[derive(Clone, Copy, PartialEq, Eq)]
+enum Gadget {
+    Refreshing,
+    Sum,
+    Product,
+}
+
+const GADGETS: [Gadget; 3] = [Gadget::Refreshing, Gadget::Sum, Gadget::Product];
+
 // A refreshing, one with a sum or another one behind it, or a multiplication of up to three shares: few enough sets to judge them all.
-fn push_gadget(t: &mut Listing, family: usize) {
+fn push_gadget(t: &mut Listing, gadget: Gadget) {
     let Shape { s, d, .. } = t.shape;
     let x = input(0, d);
     let y = input(1, d);
-    if family == 0 || 4 < d {
+    if gadget == Gadget::Refreshing || 4 < d {
         refreshed(t, x);
     } else if s < 2 {
         let z = refreshed(t, x);
         refreshed(t, z);
-    } else if family == 1 || 3 < d {
+    } else if gadget == Gadget::Sum || 3 < d {
         let z = refreshed(t, x);
         paired(t, Kind::Xor, z, y);
     } else {
@@ -215,8 +225,8 @@ pub fn routine(seed: u64) -> Listing {
     let s = secrets_drawn(seed);
     let few = chance::draw(seed, 4) % 4;
     let mut t = splitting::begun(s, shares_drawn(seed, s));
-    if family < 3 {
-        push_gadget(&mut t, family);
+    if let Some(gadget) = GADGETS.get(family) {
+        push_gadget(&mut t, *gadget);
         alter_often(&mut t, chance::draw(seed, 5), few);
         push_many_drawn(&mut t, chance::draw(seed, 6), few / 2);
         mark_some(&mut t, chance::draw(seed, 7), 4);
@@ -232,7 +242,7 @@ pub fn large(seed: u64) -> Listing {
     let s = chance::below(seed, 2, 8).wrapping_add(1);
     let d = chance::below(seed, 3, 7).wrapping_add(2);
     let mut t = splitting::begun(s, d);
-    push_gadget(&mut t, chance::below(seed, 4, 3));
+    push_gadget(&mut t, GADGETS[chance::below(seed, 4, 3) % 3]);
     push_many_drawn(&mut t, chance::draw(seed, 6), chance::draw(seed, 5) % 128);
     let odds = chance::below(seed, 8, 3).wrapping_add(1);
     mark_some(&mut t, chance::draw(seed, 7), odds);
