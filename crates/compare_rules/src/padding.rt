@@ -2,7 +2,7 @@
 use crate::{adding, shares};
 use compare_lines::wires;
 use compare_texts::marks::Marks;
-use compare_texts::{marks, spelling};
+use compare_texts::spelling;
 use data::{Kind, Listing, Needed, Padded, ProbeSet, Refusal, Shape, Step, Wire};
 
 // ---- one wire
@@ -35,18 +35,18 @@ fn turns(x: Wire) -> bool {
 #[derive(Clone, Copy)]
 struct State<'a> {
     wires: &'a [Wire],
-    probe: Marks,
-    leaf: Marks,
-    live: Marks,
+    probe: Marks<2>,
+    leaf: Marks<2>,
+    live: Marks<2>,
 }
 
 impl<'a> State<'a> {
     // The first leaves are the randoms.
-    fn begun(wires: &'a [Wire], probe: Marks) -> State<'a> {
-        let mut leaf = marks::none();
+    fn begun(wires: &'a [Wire], probe: Marks<2>) -> State<'a> {
+        let mut leaf = Marks::none();
         for (w, x) in wires.iter().enumerate() {
             if x.kind == Kind::Rand {
-                leaf = marks::with(leaf, w);
+                leaf.set(w);
             }
         }
         State {
@@ -59,7 +59,7 @@ impl<'a> State<'a> {
 
     // Whether the wire is live and no leaf, so that what it computes from is live.
     fn is_computed(&self, w: usize) -> bool {
-        marks::has(self.live, w) && !marks::has(self.leaf, w)
+        self.live.has(w) && !self.leaf.has(w)
     }
 
     // The live wires and what they compute from, from the last wire to the first.
@@ -67,8 +67,8 @@ impl<'a> State<'a> {
         for (w, x) in self.wires.iter().enumerate().rev() {
             if self.is_computed(w) {
                 if let Some((a, b)) = operands(*x) {
-                    let one = marks::with(self.live, usize::from(a));
-                    self.live = marks::with(one, usize::from(b));
+                    self.live.set(usize::from(a));
+                    self.live.set(usize::from(b));
                 }
             }
         }
@@ -98,7 +98,7 @@ impl<'a> State<'a> {
     // Whether r serves as the pad of a wire that computes from it.
     fn serves(&self, r: u8) -> bool {
         let w = usize::from(r);
-        !marks::has(self.probe, w) && marks::has(self.leaf, w) && self.consumers(r) == 1
+        !self.probe.has(w) && self.leaf.has(w) && self.consumers(r) == 1
     }
 
     // The step at w, if w can be padded: by its lower operand, or else by the other one.
@@ -127,11 +127,11 @@ impl<'a> State<'a> {
 pub struct Padding {
     pub len: usize,
     pub steps: [Step; 128],
-    pub live: Marks,
+    pub live: Marks<2>,
 }
 
 // Every step makes one more wire a leaf, so 128 are enough.
-pub fn pad_all(wires: &[Wire], probe: Marks) -> Padding {
+pub fn pad_all(wires: &[Wire], probe: Marks<2>) -> Padding {
     let mut state = State::begun(wires, probe);
     let mut steps = [Step { w: 0, r: 0 }; 128];
     for len in 0..128 {
@@ -141,7 +141,7 @@ pub fn pad_all(wires: &[Wire], probe: Marks) -> Padding {
             return Padding { len, steps, live };
         };
         steps[len] = step;
-        state.leaf = marks::with(state.leaf, usize::from(step.w));
+        state.leaf.set(usize::from(step.w));
     }
     state.spread();
     Padding {
@@ -153,17 +153,17 @@ pub fn pad_all(wires: &[Wire], probe: Marks) -> Padding {
 
 // ---- sets
 
-pub fn probe_marks(set: &ProbeSet) -> Marks {
-    let mut probe = marks::none();
+pub fn probe_marks(set: &ProbeSet) -> Marks<2> {
+    let mut probe = Marks::none();
     for w in adding::held(set) {
-        probe = marks::with(probe, usize::from(*w));
+        probe.set(usize::from(*w));
     }
     probe
 }
 
 // The live shares as a word.
-pub fn share_word(shape: Shape, live: Marks) -> u64 {
-    shares::word_of(wires::shares(shape.s, shape.d), |k| marks::has(live, k))
+pub fn share_word(shape: Shape, live: Marks<2>) -> u64 {
+    shares::word_of(wires::shares(shape.s, shape.d), |k| live.has(k))
 }
 
 // What the two calls on one set answer.

@@ -3,6 +3,7 @@
 use crate::adding::held;
 use crate::shares;
 use compare_lines::wires;
+use compare_texts::marks::Marks;
 use compare_texts::running;
 use compare_texts::running::Bits;
 use data::{Kind, Listing, ProbeSet, Shape};
@@ -55,45 +56,12 @@ fn high_bits(x: u64, count: usize) -> u64 {
 
 // ---- starts
 
-// Up to 512 starts, a bit for each.
-#[derive(Clone, Copy)]
-struct Marked([u64; 8]);
-
-impl Marked {
-    fn none() -> Marked {
-        Marked([0; 8])
-    }
-
-    fn has(&self, x: usize) -> bool {
-        wires::bit(self.0[x / 64 % 8], x % 64)
-    }
-
-    fn note(&mut self, x: usize) {
-        self.0[x / 64 % 8] |= 1 << (x % 64);
-    }
-
-    // Those that are in the other too.
-    fn keep(&mut self, other: &Marked) {
-        for (x, y) in self.0.iter_mut().zip(&other.0) {
-            *x &= *y;
-        }
-    }
-
-    // How many are in both.
-    fn count_both(&self, other: &Marked) -> u32 {
-        self.0.iter().zip(&other.0).fold(
-            0,
-            |count: u32, (x, y)| count.wrapping_add((*x & *y).count_ones()),
-        )
-    }
-}
-
-// All starts of a routine that have the same publics: from which each wire is 1, and which have each choice of the secrets.
+// All starts of a routine that have the same publics, up to 512, a mark for each: from which each wire is 1, and which have each choice of the secrets.
 #[derive(Clone, Copy)]
 pub struct Table {
-    all: Marked,
-    ones: [Marked; 64],
-    chosen: [Marked; 64],
+    all: Marks<8>,
+    ones: [Marks<8>; 64],
+    chosen: [Marks<8>; 64],
 }
 
 fn choices(s: usize) -> usize {
@@ -104,9 +72,9 @@ impl Table {
     // Runs every start.
     pub fn of(r: &Small, publics: u64) -> Table {
         let mut table = Table {
-            all: Marked::none(),
-            ones: [Marked::none(); 64],
-            chosen: [Marked::none(); 64],
+            all: Marks::none(),
+            ones: [Marks::none(); 64],
+            chosen: [Marks::none(); 64],
         };
         let shape = r.listing.shape;
         let ws = wires::of(&r.listing);
@@ -119,28 +87,28 @@ impl Table {
                 publics,
             };
             let values = running::values(ws, bits);
-            table.note(x, values.low, secrets(shape, word));
+            table.note(x, &values, secrets(shape, word));
         }
         table
     }
 
     // Notes start x with the values and the secrets that it gives.
-    fn note(&mut self, x: usize, values: u64, secrets: u64) {
-        self.all.note(x);
-        self.chosen[(secrets % 64) as usize].note(x);
+    fn note(&mut self, x: usize, values: &Marks<2>, secrets: u64) {
+        self.all.set(x);
+        self.chosen[(secrets % 64) as usize].set(x);
         for (w, ones) in self.ones.iter_mut().enumerate() {
-            if wires::bit(values, w) {
-                ones.note(x);
+            if values.has(w) {
+                ones.set(x);
             }
         }
     }
 
-    fn ones_of(&self, w: u8) -> &Marked {
+    fn ones_of(&self, w: u8) -> &Marks<8> {
         &self.ones[usize::from(w % 64)]
     }
 
     // The starts from which all wires of the set are 1.
-    fn all_one(&self, set: &ProbeSet) -> Marked {
+    fn all_one(&self, set: &ProbeSet) -> Marks<8> {
         let mut all = self.all;
         for w in held(set) {
             all.keep(self.ones_of(*w));

@@ -1,6 +1,6 @@
 // Running a routine: the values in marks, one wire after the other.
 use crate::marks::Marks;
-use crate::{marks, spelling};
+use crate::spelling;
 use compare_lines::wires;
 use data::{Kind, Listing, Refusal, Wire};
 
@@ -18,13 +18,13 @@ fn is_within(word: u64, count: usize) -> bool {
 }
 
 // The values of the wires, a mark where it is 1; each random and each public takes the next bit of its word.
-pub fn values(ws: &[Wire], bits: Bits) -> Marks {
-    let mut done = marks::none();
+pub fn values(ws: &[Wire], bits: Bits) -> Marks<2> {
+    let mut done = Marks::none();
     let mut rands: usize = 0;
     let mut pubs: usize = 0;
     for (w, x) in ws.iter().enumerate() {
-        let a = marks::has(done, usize::from(x.a));
-        let b = marks::has(done, usize::from(x.b));
+        let a = done.has(usize::from(x.a));
+        let b = done.has(usize::from(x.b));
         let value = match x.kind {
             Kind::Share => wires::bit(bits.shares, w),
             Kind::Rand => wires::bit(bits.randoms, rands),
@@ -34,7 +34,7 @@ pub fn values(ws: &[Wire], bits: Bits) -> Marks {
             Kind::Not => !a,
         };
         if value {
-            done = marks::with(done, w);
+            done.set(w);
         }
         rands = rands.wrapping_add(usize::from(x.kind == Kind::Rand));
         pubs = pubs.wrapping_add(usize::from(x.kind == Kind::Pub));
@@ -60,7 +60,7 @@ pub fn run(listing: Listing, bits: Bits, buf: &mut [u8]) -> Result<usize, Refusa
     }
     let done = values(ws, bits);
     for (w, b) in buf.iter_mut().enumerate().take(ws.len()) {
-        *b = u8::from(marks::has(done, w));
+        *b = u8::from(done.has(w));
     }
     Ok(ws.len())
 }
