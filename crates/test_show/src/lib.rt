@@ -23,10 +23,7 @@ pub fn text_of(part: &[u8]) -> &[u8] {
 
 // 0 where the call did what was asked, or the number of the refusal.
 pub fn outcome_number(o: Result<(), Refusal>) -> u64 {
-    match o {
-        Ok(()) => 0,
-        Err(f) => f.number(),
-    }
+    o.err().map_or(0, Refusal::number)
 }
 
 // A set, printed as its wires, with a space before each.
