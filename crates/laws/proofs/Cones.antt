@@ -1,7 +1,8 @@
 -- The tables of no wires, and with a wire more, each by the words of the earlier wires; and a bit as a table shifts it.
+use Rattle.laws.proofs.Values.{shift_one}
 use Rattle.std.specs.Prelude.{◌≡◌, true, cond, ltb, length, take, set, ◌%◌}
 use Rattle.std.proofs.Math.Path.{refl, sym, ap}
-use Rattle.std.proofs.Common.{ap₂, ◌∙◌, inl, inr, add-one, one-mul, arith, lit<, get_or-take, take-suc-set, shl_exact}
+use Rattle.std.proofs.Common.{ap₂, ◌∙◌, inl, inr, add-one, arith, get_or-take, take-suc-set}
 use mathlib.Core.List.{List, [], ◌∷◌, ◌++◌}
 use Prim.Native.Nat.{ℕ, ◌+◌, ◌*◌, ◌^◌, ◌<◌}
 use Rattle.std.specs.Int.Bits.{bit_or, or_zero_r}
@@ -22,7 +23,7 @@ use Rattle.cones.proofs.Laws.Making.{fit_sound}
 
 -- no bit of it is lost
 pub one_shifted : (k : ℕ) → k < 64 → (1 * 2 ^ k) % 2 ^ 64 ≡ 2 ^ k
-one_shifted k h = shl_exact {a = 1} 1 k 64 (lit< tt) (omega arith) ∙ one-mul (2 ^ k)
+one_shifted k h = shift_one k h
 
 -- ---- no wires
 
