@@ -1,9 +1,15 @@
--- Bytes put into a buffer: the same bytes in another form, and a byte more of a word.
+-- Bytes put into a buffer: how long it is then, the same bytes in another form, and a byte more of a word.
 use Rattle.std.specs.Prelude.{◌≡◌, List, ℕ, ◌+◌, ◌<◌, length, get_or, take, set}
 use Rattle.std.proofs.Common.{subst, add-one, take-suc}
-use Rattle.buffer.specs.Put.{Put}
+use Rattle.std.proofs.Math.Seq.{length-sets}
+use Rattle.buffer.specs.Put.{wrote, Put}
 use Rattle.buffer.specs.Laws.{put_then}
 use Rattle.buffer.proofs.Laws.Puts.{put_one}
+
+-- the buffer is as long as before
+pub wrote_long : (b : List ℕ) (at : ℕ) (v : List ℕ) → length (wrote b at v) ≡ length b
+unfolding wrote
+wrote_long b at v = length-sets b at v
 
 -- the same bytes
 pub put_same : {b : List ℕ} {at : ℕ} {v w : List ℕ} {r : ℕ} {c : List ℕ} → Put b at v r c → v ≡ w → Put b at w r c

@@ -12,3 +12,4 @@ pub mod Cones
 pub mod Step
 pub mod Marks
 pub mod Growing
+pub mod Intake

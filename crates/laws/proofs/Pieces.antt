@@ -24,9 +24,18 @@ three_digits_lem n l = simp (le-ltb n 10 (omega arith), le-ltb n 100 l)
 
 -- ---- lines by their count of numbers
 
--- the specification's line of two numbers, in front of any others
+-- the specification's line of one number, in front of any others
+pub join_1 : (word : List ℕ) (a : ℕ) (t : List ℕ) → join tab (word ∷ decimal a ∷ []) ++ lf ∷ t ≡ line word (a ∷ []) ++ t
+join_1 word a t = join_line word (a ∷ []) t
+
+-- of two
 pub join_2 : (word : List ℕ) (a b : ℕ) (t : List ℕ) → join tab (word ∷ decimal a ∷ decimal b ∷ []) ++ lf ∷ t ≡ line word (a ∷ b ∷ []) ++ t
 join_2 word a b t = join_line word (a ∷ b ∷ []) t
+
+-- of three
+pub join_3 : (word : List ℕ) (a b c : ℕ) (t : List ℕ)
+    → join tab (word ∷ decimal a ∷ decimal b ∷ decimal c ∷ []) ++ lf ∷ t ≡ line word (a ∷ b ∷ c ∷ []) ++ t
+join_3 word a b c t = join_line word (a ∷ b ∷ c ∷ []) t
 
 -- how long a line of one number is
 pub line1_long : (word : List ℕ) (a : ℕ) → length (line word (a ∷ [])) ≡ length word + length (decimal a) + 2
