@@ -13,3 +13,10 @@ pub mod Step
 pub mod Marks
 pub mod Growing
 pub mod Intake
+pub mod Copies
+pub mod Fields
+pub mod Letters
+pub mod Lines
+pub mod Reader
+pub mod State
+pub mod Taking

@@ -8,7 +8,7 @@ use Rattle.document.specs.Reading.{not_read, from_header, from_first}
 use Rattle.data.specs.declared.Refusal.TheVariants as No
 use Rattle.lines.proofs.Laws.{lines_first, lines_none}
 
-pub first_none : (t : List ℕ) → cut lf t ≡ t ∷ [] → from_first (lines_in t) ≡ not_read No.Header 1
+pub first_none : (t : List ℕ) {p : List ℕ} → cut lf t ≡ p ∷ [] → from_first (lines_in t) ≡ not_read No.Header 1
 unfolding from_first
 first_none t h = rw (lines_none t h) refl
 
