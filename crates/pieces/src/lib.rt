@@ -16,13 +16,25 @@ pub enum Part {
     Outputs,
 }
 
-// A tab and a number.
+// A tab and a number. A byte has three digits at most, so that a text is spared the turns of `put_number`.
+#[tactic(auto, unfolding(document::specs::Lines::decimal))]
 fn put_field<S: Sink>(n: u8, out: &mut S)
     requires { length (tab ∷ decimal n) ≤ S.room out.old }
     ensures { S.puts out.old (tab ∷ decimal n) out.new }
 {
-    out.put_byte(data::TAB);
-    buffer::put_number(u64::from(n), out);
+    let ones = data::ZERO + n % 10;
+    if n < 10 {
+        out.put_word(&[data::TAB, ones]);
+    } else if n < 100 {
+        out.put_word(&[data::TAB, data::ZERO + n / 10, ones]);
+    } else {
+        out.put_word(&[
+            data::TAB,
+            data::ZERO + n / 100,
+            data::ZERO + n / 10 % 10,
+            ones,
+        ]);
+    }
 }
 
 // The word, each number behind a tab, and LF.
