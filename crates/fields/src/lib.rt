@@ -6,6 +6,11 @@ ghost use Rattle.document.specs.Lines.{cut, number, word_of};
 
 use data::{Word, ZERO};
 
+// The first digit and the last, as numbers.
+pub const DIGIT_ZERO: usize = 48;
+
+pub const DIGIT_NINE: usize = 57;
+
 // The place of the first sep.
 fn place_of(xs: &[u8], sep: u8) -> Option<usize>
     ensures { result ≡ position (λ b. eqb b sep) xs.now }

@@ -17,7 +17,7 @@ pub struct Inputs {
 }
 
 // Bit k of the word; beyond its 64 bits it has none set.
-fn bit_at(word: u64, k: usize) -> u8
+pub fn bit_at(word: u64, k: usize) -> u8
     ensures { result ≡ get_or (bits 64 word) k 0 }
 {
     if k < 64 { (word >> k & 1) as u8 } else { 0 }
