@@ -18,3 +18,9 @@ pub taken : (before between left : Option (List ℕ)) (done k n : ℕ) (xs ys : 
     → Consumes between left (take n ys) → Consumes before between (take done xs) → Consumes before left (take (done + n) (put_mid done k xs ys))
 taken before between left done k n xs ys within fits gave first =
     subst (Consumes before left) (sym (read_in done k n xs ys within fits)) (Consumes-trans before between left _ _ first gave)
+
+-- the same, where m is how many bytes are there then
+pub taken_so : (before between left : Option (List ℕ)) (done k n m : ℕ) (xs ys : List ℕ) → m ≡ done + n → done ≤ length xs → n ≤ length ys
+    → Consumes between left (take n ys) → Consumes before between (take done xs) → Consumes before left (take m (put_mid done k xs ys))
+taken_so before between left done k n m xs ys e within fits gave first =
+    subst (λ (i : ℕ). Consumes before left (take i (put_mid done k xs ys))) (sym e) (taken before between left done k n xs ys within fits gave first)
